@@ -1,0 +1,76 @@
+//! Compares the landing voice library with an independent reading of
+//! document 01.
+//!
+//! `paper` says what ought to come out, `calls` what the library does, and
+//! `inputs` what both are given. Each subject has a module that runs the
+//! comparison: so far `payloads`, the reading of payloads.
+//!
+//! The library is called by another program, `serve.c`. Compile that for the
+//! library's machine, with `include/` to find the header and `liblanding.a`
+//! to link, and run
+//!
+//! ```text
+//! compare [--seed N] -- COMMAND [WORDS..]
+//! ```
+//!
+//! where COMMAND starts it: its path alone, or an emulator and its path. N is
+//! the seed of the inputs. The status is 0 if the last line says that nothing
+//! differs, else 1, or 2 for other words than these.
+
+mod calls;
+mod inputs;
+mod library;
+mod paper;
+mod payloads;
+mod report;
+
+use std::env;
+use std::ffi::OsString;
+use std::process::ExitCode;
+
+use inputs::Rng;
+use library::{Fault, Library};
+use report::Report;
+
+/// The seed if none is given.
+const SEED: u64 = 20_261_115;
+
+fn main() -> ExitCode {
+    let words: Vec<OsString> = env::args_os().skip(1).collect();
+    let Some((seed, command, words)) = asked(&words) else {
+        eprintln!("usage: compare [--seed N] -- COMMAND [WORDS..]");
+        return ExitCode::from(2);
+    };
+    let mut report = Report::default();
+    if let Err(fault) = compare(seed, command, words, &mut report) {
+        report.failure(fault);
+    }
+    report.close()
+}
+
+/// The seed, and the command that starts the server with its words.
+fn asked(words: &[OsString]) -> Option<(u64, &OsString, &[OsString])> {
+    let end = words.iter().position(|word| word == "--")?;
+    let seed = match &words[..end] {
+        [] => SEED,
+        [name, seed] if name == "--seed" => seed.to_str()?.parse().ok()?,
+        _ => return None,
+    };
+    let (command, words) = words[end + 1..].split_first()?;
+    Some((seed, command, words))
+}
+
+/// Compares every subject. A fault of the server ends this early.
+fn compare(
+    seed: u64,
+    command: &OsString,
+    words: &[OsString],
+    report: &mut Report,
+) -> Result<(), Fault> {
+    if !calls::changes_are_noticed(&mut Rng::new(seed)) {
+        report.failure("a change to lent octets goes unnoticed");
+    }
+    let mut library = Library::start(command, words)?;
+    payloads::compare(seed, &mut library, report)?;
+    library.end()
+}

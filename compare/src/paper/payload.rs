@@ -1,0 +1,210 @@
+//! Reading payloads (document 01, "Payloads").
+
+use std::cmp::Ordering;
+
+use super::frames::FrameType;
+use super::{Form, Limits, Slip};
+
+/// What a reader gives for an accepted payload. B is the number of frames.
+#[derive(Clone, Debug, PartialEq, Eq)]
+pub struct Reading {
+    pub l: u8,
+    pub n: u8,
+    pub d: u8,
+    pub frames: Vec<Frame>,
+}
+
+/// A frame: its type and where in the payload its body lies.
+#[derive(Clone, Copy, Debug, PartialEq, Eq)]
+pub struct Frame {
+    pub kind: FrameType,
+    pub start: usize,
+    pub size: usize,
+}
+
+/// An entry of the table of contents: F x 128 + D x 64 + type.
+#[derive(Clone, Copy, Debug)]
+struct Entry {
+    more: bool,
+    d: u8,
+    kind: FrameType,
+}
+
+/// Reads a payload in the agreed form. Maxima out of range do not come here:
+/// "a reader given maxima out of range answers 21 first", see [`Form::agreed`].
+pub fn read(form: Form, payload: &[u8], slip: Slip) -> Result<Reading, u8> {
+    let reading = match form {
+        Form::HeaderFree => read_header_free(payload, slip),
+        Form::Interleaved(limits) => read_interleaved(limits, payload, slip),
+    }?;
+    if slip == Slip::SpareBitsRefused && reading.frames.iter().any(|f| f.has_spare(payload)) {
+        return Err(17);
+    }
+    Ok(reading)
+}
+
+/// Frame `k` of a payload. "A frame is asked for by its number; one not below
+/// the frame count answers 21." A refused payload answers its refusal.
+pub fn frame(form: Form, payload: &[u8], k: usize, slip: Slip) -> Result<Frame, u8> {
+    let frames = match read(form, payload, slip) {
+        Err(_) if slip == Slip::RefusedFrameAnswers21 => return Err(21),
+        reading => reading?.frames,
+    };
+    let found = match slip {
+        Slip::FrameNumberCut => frames.get(k as u32 as usize),
+        Slip::FrameCountOffByOne if k == frames.len() => frames.last(),
+        _ => frames.get(k),
+    };
+    found.copied().ok_or(21)
+}
+
+/// "Type 2 (header-free): one body and nothing else, its type known by the
+/// length", else 9. "It is read as a group with L = 0, N = 0, B = 1, and D is
+/// reported as 0."
+fn read_header_free(payload: &[u8], slip: Slip) -> Result<Reading, u8> {
+    let kind = match payload.len() {
+        2 => FrameType::Eighth,
+        10 => FrameType::Half,
+        22 => FrameType::Full,
+        5 if slip == Slip::HeaderFreeLength5Accepted => FrameType::Eighth,
+        0 if slip == Slip::HeaderFreeEmptyAccepted => FrameType::Blank,
+        _ => return Err(9),
+    };
+    let size = payload.len();
+    Ok(Reading { l: 0, n: 0, d: 0, frames: vec![Frame { kind, start: 0, size }] })
+}
+
+/// Type 1: octet 0 (1, 2, 3), the table of contents (4, 6, 5), the bodies
+/// (7, 8).
+fn read_interleaved(limits: Limits, payload: &[u8], slip: Slip) -> Result<Reading, u8> {
+    let (&first, rest) = payload.split_first().ok_or(1)?;
+    let (l, n) = read_interleaving(first, limits, slip)?;
+    let table = read_table(rest, limits, slip)?;
+    let frames = lay_out(&table, payload.len(), slip)?;
+    if slip == Slip::MaximaCheckedLate {
+        limits.checked(slip)?;
+    }
+    // "The D reported for a packet is the last entry's."
+    let reported = match slip {
+        Slip::DFromFirstEntry => table.first(),
+        _ => table.last(),
+    };
+    let d = reported.map_or(0, |entry| entry.d);
+    Ok(Reading { l, n, d, frames })
+}
+
+/// L and N. "Octet 0 is RR x 64 + L x 8 + N. RR is [...] ignored when read."
+/// 2 if N is above L, then 3 if L is above the agreed maximum.
+fn read_interleaving(octet: u8, limits: Limits, slip: Slip) -> Result<(u8, u8), u8> {
+    let n = octet % 8;
+    let l = match slip {
+        Slip::RrNotIgnored => octet / 8,
+        _ => octet / 8 % 8,
+    };
+    let max_l = match slip {
+        Slip::MaximumLOffByOne => limits.max_l + 1,
+        _ => limits.max_l,
+    };
+    let two = if n > l { Err(2) } else { Ok(()) };
+    let three = if l > max_l { Err(3) } else { Ok(()) };
+    match slip {
+        Slip::NAboveLNotChecked => three?,
+        Slip::ThreeBeforeTwo => three.and(two)?,
+        _ => two.and(three)?,
+    }
+    Ok((l, n))
+}
+
+/// The table of contents, up to the first entry without F. "The walk over the
+/// table of contents ends at the first fault it meets."
+fn read_table(octets: &[u8], limits: Limits, slip: Slip) -> Result<Vec<Entry>, u8> {
+    if slip == Slip::WholeTableFirst && octets.iter().all(|octet| octet / 128 == 1) {
+        return Err(4);
+    }
+    let mut table = Vec::new();
+    loop {
+        let entry = read_entry(octets, table.len(), limits, slip)?;
+        table.push(entry);
+        if !entry.more {
+            return Ok(table);
+        }
+    }
+}
+
+/// Entry `number` of the table. "For each entry the order is 4, 6, 5."
+fn read_entry(octets: &[u8], number: usize, limits: Limits, slip: Slip) -> Result<Entry, u8> {
+    let past = match slip {
+        Slip::MaximumBOffByOne => number > usize::from(limits.max_b),
+        _ => number >= usize::from(limits.max_b),
+    };
+    let four = octets.get(number).copied().ok_or(4);
+    let six = if past { Err(6) } else { Ok(()) };
+    let five = |octet| Entry::of(octet, slip).ok_or(5);
+    match slip {
+        Slip::SixBeforeFour => {
+            six?;
+            five(four?)
+        }
+        Slip::FiveBeforeSix => {
+            let entry = five(four?)?;
+            six?;
+            Ok(entry)
+        }
+        _ => {
+            let octet = four?;
+            six?;
+            five(octet)
+        }
+    }
+}
+
+/// "Then the bodies, in the entries' order", behind octet 0 and the table:
+/// 7 if they need more octets than are there, 8 if octets are left.
+fn lay_out(table: &[Entry], len: usize, slip: Slip) -> Result<Vec<Frame>, u8> {
+    let mut end = 1 + table.len();
+    let frames = table
+        .iter()
+        .map(|entry| {
+            let (start, size) = (end, entry.kind.body());
+            end += size;
+            Frame { kind: entry.kind, start: start_shown(start, size, slip), size }
+        })
+        .collect();
+    match end.cmp(&len) {
+        Ordering::Greater => Err(7),
+        Ordering::Less if slip != Slip::LeftOverAllowed => Err(8),
+        _ => Ok(frames),
+    }
+}
+
+/// A body starts where it lies; an empty one where it would lie.
+fn start_shown(start: usize, size: usize, slip: Slip) -> usize {
+    match slip {
+        Slip::StartOffByOneEntry => start - 1,
+        Slip::EmptyBodyStartsAtZero if size == 0 => 0,
+        _ => start,
+    }
+}
+
+impl Entry {
+    /// The entry an octet is, unless its type is reserved.
+    fn of(octet: u8, slip: Slip) -> Option<Entry> {
+        let number = match slip {
+            Slip::TypeOfFourBits => octet % 16,
+            _ => octet % 64,
+        };
+        let kind = FrameType::numbered(number)?;
+        if slip == Slip::ErasureReserved && kind == FrameType::Erasure {
+            return None;
+        }
+        Some(Entry { more: octet / 128 == 1, d: octet / 64 % 2, kind })
+    }
+}
+
+impl Frame {
+    /// Whether this is a Rate 1 frame with one of its 5 spare bits set, which
+    /// "our readers keep [...] as they came" (document 01, "Frames").
+    fn has_spare(&self, payload: &[u8]) -> bool {
+        self.kind == FrameType::Full && payload[self.start + 21] & 0x1F != 0
+    }
+}

@@ -1,0 +1,4 @@
+pub mod Marked
+pub mod PayloadClaims
+pub mod RecordingClaims
+pub mod Outcomes

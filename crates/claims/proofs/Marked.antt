@@ -1,0 +1,11 @@
+-- The marked examples hold, by computation. Assumes nothing.
+use mathlib.Core.Path.{refl}
+use Rattle.frame.specs.Table.{rowOf, rowWith}
+use Rattle.frame.specs.Places.{locatedOf, bodyOf}
+use Rattle.payload.specs.Payload.{toc, bodies, interleaved, oneBody, readAs}
+use Rattle.payload.specs.Shown.{givenOf, givenAs}
+use Rattle.claims.specs.Examples.{MarkedExamples}
+
+pub marked-examples : MarkedExamples
+unfolding rowOf rowWith locatedOf bodyOf toc bodies interleaved oneBody readAs givenOf givenAs
+marked-examples = record { asSaid = refl; anyRate1 = λ p h. rw h }

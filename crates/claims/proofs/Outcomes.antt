@@ -1,0 +1,35 @@
+-- Any two outcomes that a call's contract allows are equal. Assumes nothing.
+use mathlib.Core.Path.{sym, _∙_}
+use Rattle.claims.specs.Determined.{Determined, AnswerFixed, OutcomeFixed}
+
+pub determined : Determined
+unfolding AnswerFixed OutcomeFixed
+determined = record {
+  octetsCopy = λ κs a x y s t p q. p ∙ sym q;
+  octetsSame = λ κs a x y s t p q. p ∙ sym q;
+  octetsZeros = λ κs a x y s t p q. p ∙ sym q;
+  frameRowOf = λ κs a x y s t p q. p ∙ sym q;
+  frameBodySize = λ κs a x y s t p q. p ∙ sym q;
+  frameRowOfSize = λ κs a x y s t p q. p ∙ sym q;
+  frameLowBits = λ κs a x y s t p q. p ∙ sym q;
+  frameIsSendable = λ κs a x y s t p q. p ∙ sym q;
+  refusalNumber = λ κs a x y s t p q. p ∙ sym q;
+  limitsAgreed = λ κs a x y s t p q. p ∙ sym q;
+  limitsOpen = λ κs a x y s t p q. p ∙ sym q;
+  formAgreed = λ κs a x y s t p q. p ∙ sym q;
+  framePart = λ κs a x y s t p q. cc (p .holds, p .lies, q .holds, q .lies);
+  payloadRead = λ κs a x y s t p q. p ∙ sym q;
+  payloadLocate = λ κs a x y s t p q. p ∙ sym q;
+  payloadBody = λ κs a x y s t p q. cc (p .holds, p .lies, q .holds, q .lies);
+  lvPayloadRead = λ κs a x y s t p q. p ∙ sym q;
+  lvPayloadFrame = λ κs a x y s t p q. p ∙ sym q;
+  recordingCount = λ κs a x y s t p q. p ∙ sym q;
+  recordingRead = λ κs a x y s t p q. p ∙ sym q;
+  recordingLocate = λ κs a x y s t p q. p ∙ sym q;
+  recordingBody = λ κs a x y s t p q. cc (p .holds, p .lies, q .holds, q .lies);
+  recordingWriteCleared = λ κs a x y s t p q. p ∙ sym q;
+  recordingWrite = λ κs a x y s t p q. cc (p .answer, p .output, q .answer, q .output);
+  lvRecordingRead = λ κs a x y s t p q. p ∙ sym q;
+  lvRecordingFrame = λ κs a x y s t p q. p ∙ sym q;
+  lvRecordingWrite = λ κs a x y s t p q. p ∙ sym q;
+}

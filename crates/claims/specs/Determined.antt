@@ -1,0 +1,108 @@
+-- Document 01, "What the promises have to say": any two outcomes that a call's contract allows are equal, the answer and all that was lent.
+-- `Post` is the contract's own reading, so a contract that is weakened breaks its claim here.
+use Prim.Native.Nat.{ℕ}
+use mathlib.Core.Path.{_≡_}
+use mathlib.Core.List.{List}
+use denote.Triple.Clauses.{AtExit}
+use denote.Ref.{now, ptr}
+use contract.Lifetimes.{Lfts}
+use borrow.Fn.Kinds.{PK, RK, Dens, resT, endedOf, Out}
+use Rattle.landing.specs.Host.{PacketTold, packetTold, PlaceTold, placeTold, CountTold, countTold, WriteTold, writeTold}
+use Rattle.frame.specs.declared.Written.{Written}
+use Rattle.octets.proofs.copy.Kinds as octets-copy-kinds
+use Rattle.octets.proofs.copy.Reads as octets-copy
+use Rattle.octets.proofs.same.Kinds as octets-same-kinds
+use Rattle.octets.proofs.same.Reads as octets-same
+use Rattle.octets.proofs.zeros.Kinds as octets-zeros-kinds
+use Rattle.octets.proofs.zeros.Reads as octets-zeros
+use Rattle.frame.proofs.row_of.Kinds as frame-row-of-kinds
+use Rattle.frame.proofs.row_of.Reads as frame-row-of
+use Rattle.frame.proofs.body_size.Kinds as frame-body-size-kinds
+use Rattle.frame.proofs.body_size.Reads as frame-body-size
+use Rattle.frame.proofs.row_of_size.Kinds as frame-row-of-size-kinds
+use Rattle.frame.proofs.row_of_size.Reads as frame-row-of-size
+use Rattle.frame.proofs.low_bits.Kinds as frame-low-bits-kinds
+use Rattle.frame.proofs.low_bits.Reads as frame-low-bits
+use Rattle.frame.proofs.is_sendable.Kinds as frame-is-sendable-kinds
+use Rattle.frame.proofs.is_sendable.Reads as frame-is-sendable
+use Rattle.frame.proofs.Refusal.number.Kinds as frame-refusal-number-kinds
+use Rattle.frame.proofs.Refusal.number.Reads as frame-refusal-number
+use Rattle.frame.proofs.Limits.agreed.Kinds as frame-limits-agreed-kinds
+use Rattle.frame.proofs.Limits.agreed.Reads as frame-limits-agreed
+use Rattle.frame.proofs.Limits.«open».Kinds as frame-limits-open-kinds
+use Rattle.frame.proofs.Limits.«open».Reads as frame-limits-open
+use Rattle.frame.proofs.Form.agreed.Kinds as frame-form-agreed-kinds
+use Rattle.frame.proofs.Form.agreed.Reads as frame-form-agreed
+use Rattle.frame.proofs.part.Kinds as frame-part-kinds
+use Rattle.frame.proofs.part.Reads as frame-part
+use Rattle.payload.proofs.read.Kinds as payload-read-kinds
+use Rattle.payload.proofs.read.Reads as payload-read
+use Rattle.payload.proofs.locate.Kinds as payload-locate-kinds
+use Rattle.payload.proofs.locate.Reads as payload-locate
+use Rattle.payload.proofs.body.Kinds as payload-body-kinds
+use Rattle.payload.proofs.body.Reads as payload-body
+use Rattle.landing.proofs.lv_payload_read.Kinds as landing-lv-payload-read-kinds
+use Rattle.landing.proofs.lv_payload_read.Reads as landing-lv-payload-read
+use Rattle.landing.proofs.lv_payload_frame.Kinds as landing-lv-payload-frame-kinds
+use Rattle.landing.proofs.lv_payload_frame.Reads as landing-lv-payload-frame
+use Rattle.recording.proofs.count.Kinds as recording-count-kinds
+use Rattle.recording.proofs.count.Reads as recording-count
+use Rattle.recording.proofs.read.Kinds as recording-read-kinds
+use Rattle.recording.proofs.read.Reads as recording-read
+use Rattle.recording.proofs.locate.Kinds as recording-locate-kinds
+use Rattle.recording.proofs.locate.Reads as recording-locate
+use Rattle.recording.proofs.body.Kinds as recording-body-kinds
+use Rattle.recording.proofs.body.Reads as recording-body
+use Rattle.recording.proofs.write_cleared.Kinds as recording-write-cleared-kinds
+use Rattle.recording.proofs.write_cleared.Reads as recording-write-cleared
+use Rattle.recording.proofs.write.Kinds as recording-write-kinds
+use Rattle.recording.proofs.write.Reads as recording-write
+use Rattle.landing.proofs.lv_recording_read.Kinds as landing-lv-recording-read-kinds
+use Rattle.landing.proofs.lv_recording_read.Reads as landing-lv-recording-read
+use Rattle.landing.proofs.lv_recording_frame.Kinds as landing-lv-recording-frame-kinds
+use Rattle.landing.proofs.lv_recording_frame.Reads as landing-lv-recording-frame
+use Rattle.landing.proofs.lv_recording_write.Kinds as landing-lv-recording-write-kinds
+use Rattle.landing.proofs.lv_recording_write.Reads as landing-lv-recording-write
+
+-- what a contract allows fixes the answer
+unfoldable pub AnswerFixed : (n : ℕ) (ps : List (PK n)) (r : RK n) → Out n ps r → Type 0
+AnswerFixed n ps r post =
+    (κs : Lfts n) (a : Dens κs ps) (x y : resT r κs .Denot) (s t : AtExit (endedOf n ps r) κs) →
+    post κs a x s → post κs a y t → x ≡ y
+
+-- what a contract allows fixes all that is seen of an outcome: of the answer, and of the lent parameters as the call ends
+unfoldable pub OutcomeFixed : (n : ℕ) (ps : List (PK n)) (r : RK n) → Out n ps r → (X : Type 0) →
+    ((κs : Lfts n) → resT r κs .Denot → AtExit (endedOf n ps r) κs → X) → Type 0
+OutcomeFixed n ps r post X seen =
+    (κs : Lfts n) (a : Dens κs ps) (x y : resT r κs .Denot) (s t : AtExit (endedOf n ps r) κs) →
+    post κs a x s → post κs a y t → seen κs x s ≡ seen κs y t
+
+-- every public call of the house
+pub record Determined : Type 0 where
+  pub octetsCopy : OutcomeFixed 2 octets-copy-kinds.ps octets-copy-kinds.r octets-copy.Post (List ℕ) (λ κs x s. now (s .0))
+  pub octetsSame : AnswerFixed 2 octets-same-kinds.ps octets-same-kinds.r octets-same.Post
+  pub octetsZeros : AnswerFixed 1 octets-zeros-kinds.ps octets-zeros-kinds.r octets-zeros.Post
+  pub frameRowOf : AnswerFixed 0 frame-row-of-kinds.ps frame-row-of-kinds.r frame-row-of.Post
+  pub frameBodySize : AnswerFixed 0 frame-body-size-kinds.ps frame-body-size-kinds.r frame-body-size.Post
+  pub frameRowOfSize : AnswerFixed 0 frame-row-of-size-kinds.ps frame-row-of-size-kinds.r frame-row-of-size.Post
+  pub frameLowBits : AnswerFixed 0 frame-low-bits-kinds.ps frame-low-bits-kinds.r frame-low-bits.Post
+  pub frameIsSendable : AnswerFixed 1 frame-is-sendable-kinds.ps frame-is-sendable-kinds.r frame-is-sendable.Post
+  pub refusalNumber : AnswerFixed 0 frame-refusal-number-kinds.ps frame-refusal-number-kinds.r frame-refusal-number.Post
+  pub limitsAgreed : AnswerFixed 0 frame-limits-agreed-kinds.ps frame-limits-agreed-kinds.r frame-limits-agreed.Post
+  pub limitsOpen : AnswerFixed 0 frame-limits-open-kinds.ps frame-limits-open-kinds.r frame-limits-open.Post
+  pub formAgreed : AnswerFixed 0 frame-form-agreed-kinds.ps frame-form-agreed-kinds.r frame-form-agreed.Post
+  pub framePart : OutcomeFixed 1 frame-part-kinds.ps frame-part-kinds.r frame-part.Post (List ℕ × (ℕ × ℕ)) (λ κs x s. (now x, ptr x))
+  pub payloadRead : AnswerFixed 1 payload-read-kinds.ps payload-read-kinds.r payload-read.Post
+  pub payloadLocate : AnswerFixed 1 payload-locate-kinds.ps payload-locate-kinds.r payload-locate.Post
+  pub payloadBody : OutcomeFixed 1 payload-body-kinds.ps payload-body-kinds.r payload-body.Post (List ℕ × (ℕ × ℕ)) (λ κs x s. (now x, ptr x))
+  pub lvPayloadRead : OutcomeFixed 5 landing-lv-payload-read-kinds.ps landing-lv-payload-read-kinds.r landing-lv-payload-read.Post PacketTold (λ κs x s. packetTold x (now (s .1 .1 .1 .1 .0)) (now (s .1 .1 .1 .1 .1 .0)) (now (s .1 .1 .1 .1 .1 .1 .0)) (now (s .1 .1 .1 .1 .1 .1 .1 .0)))
+  pub lvPayloadFrame : OutcomeFixed 4 landing-lv-payload-frame-kinds.ps landing-lv-payload-frame-kinds.r landing-lv-payload-frame.Post PlaceTold (λ κs x s. placeTold x (now (s .1 .1 .1 .1 .1 .0)) (now (s .1 .1 .1 .1 .1 .1 .0)) (now (s .1 .1 .1 .1 .1 .1 .1 .0)))
+  pub recordingCount : AnswerFixed 1 recording-count-kinds.ps recording-count-kinds.r recording-count.Post
+  pub recordingRead : AnswerFixed 1 recording-read-kinds.ps recording-read-kinds.r recording-read.Post
+  pub recordingLocate : AnswerFixed 1 recording-locate-kinds.ps recording-locate-kinds.r recording-locate.Post
+  pub recordingBody : OutcomeFixed 1 recording-body-kinds.ps recording-body-kinds.r recording-body.Post (List ℕ × (ℕ × ℕ)) (λ κs x s. (now x, ptr x))
+  pub recordingWriteCleared : OutcomeFixed 2 recording-write-cleared-kinds.ps recording-write-cleared-kinds.r recording-write-cleared.Post (List ℕ) (λ κs x s. now (s .0))
+  pub recordingWrite : OutcomeFixed 2 recording-write-kinds.ps recording-write-kinds.r recording-write.Post (Written × List ℕ) (λ κs x s. (x, now (s .1 .0)))
+  pub lvRecordingRead : OutcomeFixed 2 landing-lv-recording-read-kinds.ps landing-lv-recording-read-kinds.r landing-lv-recording-read.Post CountTold (λ κs x s. countTold x (now (s .1 .0)))
+  pub lvRecordingFrame : OutcomeFixed 4 landing-lv-recording-frame-kinds.ps landing-lv-recording-frame-kinds.r landing-lv-recording-frame.Post PlaceTold (λ κs x s. placeTold x (now (s .1 .1 .0)) (now (s .1 .1 .1 .0)) (now (s .1 .1 .1 .1 .0)))
+  pub lvRecordingWrite : OutcomeFixed 3 landing-lv-recording-write-kinds.ps landing-lv-recording-write-kinds.r landing-lv-recording-write.Post WriteTold (λ κs x s. writeTold x (now (s .1 .1 .0)) (now (s .1 .0)))

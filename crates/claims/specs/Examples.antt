@@ -1,0 +1,72 @@
+-- Document 01, "Marked examples": P1 to P10 and P14, as rows under a single claim.
+use Prim.Native.Nat.{ℕ, zero, suc}
+use mathlib.Core.Path.{_≡_}
+use mathlib.Core.List.{List, [], _∷_, _++_, map}
+use lib.ListN.{length, replicate}
+use Rattle.frame.specs.Table.{evrc}
+use Rattle.frame.specs.Agreed.{agreedForm}
+use Rattle.frame.specs.Answers.{numberOf}
+use Rattle.frame.specs.Places.{locatedOf, bodyOf}
+use Rattle.frame.specs.declared.Form.{Form}
+use Rattle.frame.specs.declared.Form.the-variants.{HeaderFree, Interleaved}
+use Rattle.frame.specs.declared.Located.{Located}
+use Rattle.frame.specs.declared.Located.the-variants.{At}
+use Rattle.payload.specs.Payload.{Reading, packet, refused, readAs}
+use Rattle.payload.specs.Shown.{givenAs}
+
+-- what is said of a payload: L, N, B, D, where each frame lies and its body; or the number of the refusal
+pub data Says : Type 0 where
+  holds : (l n b d : ℕ) → List Located → List (List ℕ) → Says
+  number : ℕ → Says
+
+-- the numbers below n, from m on
+abbrev from : ℕ → ℕ → List ℕ
+from m zero = []
+from m (suc n) = m ∷ from (suc m) n
+
+abbrev saidOf : Form → List ℕ → Reading → Says
+saidOf f p (refused r) = number (numberOf r)
+saidOf f p (packet l n d fs) =
+    holds l n (length fs) d (map (locatedOf (givenAs evrc f p)) (from 0 (length fs)))
+    (map (bodyOf (givenAs evrc f p)) (from 0 (length fs)))
+
+abbrev pub said : Form → List ℕ → Says
+said f p = saidOf f p (readAs evrc f p)
+
+pub record Row : Type 0 where
+  pub form : Form
+  pub octets : List ℕ
+  pub says : Says
+
+-- "Maxima 5 and 10 unless named": P4 names 6
+abbrev maximumSix : Form
+maximumSix = Interleaved (record { «max_l» = 6; «max_b» = 10 })
+
+abbrev pub rows : List Row
+rows =
+    -- P1: L 1, N 0, B 2, bodies at 3 and 5
+    record { form = agreedForm; octets = 0x08 ∷ 0x81 ∷ 0x01 ∷ 0x11 ∷ 0x11 ∷ 0x33 ∷ 0x33 ∷ []; says = holds 1 0 2 0 (At 1 3 2 ∷ At 1 5 2 ∷ []) ((0x11 ∷ 0x11 ∷ []) ∷ (0x33 ∷ 0x33 ∷ []) ∷ []) } ∷
+    -- P2 to P6
+    record { form = agreedForm; octets = []; says = number 1 } ∷
+    record { form = agreedForm; octets = 0x0A ∷ []; says = number 2 } ∷
+    record { form = agreedForm; octets = 0x30 ∷ []; says = number 3 } ∷
+    record { form = maximumSix; octets = 0x30 ∷ []; says = number 4 } ∷
+    record { form = agreedForm; octets = 0x00 ∷ 0x81 ∷ []; says = number 4 } ∷
+    record { form = agreedForm; octets = 0x00 ∷ 0x02 ∷ []; says = number 5 } ∷
+    -- P7: ten times 81, then 01
+    record { form = agreedForm; octets = 0x00 ∷ (replicate 10 0x81 ++ (0x01 ∷ [])); says = number 6 } ∷
+    -- P8, P9
+    record { form = agreedForm; octets = 0x00 ∷ 0x01 ∷ 0x11 ∷ []; says = number 7 } ∷
+    record { form = agreedForm; octets = 0x00 ∷ 0x01 ∷ 0x11 ∷ 0x11 ∷ 0x00 ∷ []; says = number 8 } ∷
+    -- P10: accepted, one Blank
+    record { form = agreedForm; octets = 0xC0 ∷ 0x00 ∷ []; says = holds 0 0 1 0 (At 0 2 0 ∷ []) ([] ∷ []) } ∷
+    -- P14: lengths 22, 0 and 5
+    record { form = HeaderFree; octets = replicate 22 0x55; says = holds 0 0 1 0 (At 4 0 22 ∷ []) (replicate 22 0x55 ∷ []) } ∷
+    record { form = HeaderFree; octets = []; says = number 9 } ∷
+    record { form = HeaderFree; octets = replicate 5 0x55; says = number 9 } ∷
+    []
+
+-- each row's octets are read as the row says; and (P14) so are any 22 octets
+pub record MarkedExamples : Type 0 where
+  pub asSaid : map (λ (r : Row). said (r .form) (r .octets)) rows ≡ map (λ (r : Row). r .says) rows
+  pub anyRate1 : (p : List ℕ) → length p ≡ 22 → readAs evrc HeaderFree p ≡ packet 0 0 0 (record { type = 4; body = p } ∷ [])

@@ -1,0 +1,4 @@
+pub mod Examples
+pub mod Payloads
+pub mod Recordings
+pub mod Determined

@@ -1,0 +1,23 @@
+-- Laws of the agreed limits: what their opening says. Assumes nothing.
+use mathlib.Core.Path.{_≡_, refl}
+use mathlib.Core.Bool.{Bool, true, false, cond}
+use Rattle.octets.proofs.Logic.{apart}
+use Rattle.frame.specs.Agreed.{inRange, opened}
+use Rattle.frame.specs.declared.Limits.{Limits}
+use Rattle.frame.specs.declared.Opened.the-variants.{Agreed, Refused}
+use Rattle.frame.specs.declared.Refusal.{Refusal}
+use Rattle.frame.specs.declared.Refusal.the-variants.{NotApplicable}
+
+pub opened-agreed : (m a : Limits) → opened (m .«max_l») (m .«max_b») ≡ Agreed a → (inRange m ≡ true) × (a ≡ m)
+opened-agreed m a e = go (inRange m) refl e
+  where
+    go : (b : Bool) → inRange m ≡ b → cond b (Agreed m) (Refused NotApplicable) ≡ Agreed a → (inRange m ≡ true) × (a ≡ m)
+    go true q x = (q, cc)
+    go false q x = apart (cc)
+
+pub opened-refused : (m : Limits) (r : Refusal) → opened (m .«max_l») (m .«max_b») ≡ Refused r → (inRange m ≡ false) × (r ≡ NotApplicable)
+opened-refused m r e = go (inRange m) refl e
+  where
+    go : (b : Bool) → inRange m ≡ b → cond b (Agreed m) (Refused NotApplicable) ≡ Refused r → (inRange m ≡ false) × (r ≡ NotApplicable)
+    go true q x = apart (cc)
+    go false q x = (q, cc)

@@ -1,0 +1,4 @@
+pub mod TableLaws
+pub mod AgreedLaws
+pub mod PlaceLaws
+pub mod OutputLaws

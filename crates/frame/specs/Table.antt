@@ -1,0 +1,76 @@
+-- Document 01, "Frames": a frame has a type and a body; a frame table is a list of rows, and laws are proved of any table.
+use Prim.Native.Nat.{ℕ, _-_, _%_, _^_}
+use mathlib.Core.List.{List, [], _∷_}
+use mathlib.Core.Bool.{Bool, true, false, cond, _&&_}
+use lib.Dec.{eqb, leb}
+use lib.ListN.{length, getD}
+use Rattle.frame.specs.declared.Row.{Row}
+use Rattle.frame.specs.declared.Lookup.{Lookup}
+use Rattle.frame.specs.declared.Lookup.the-variants.{Found, Missing}
+
+-- "A frame has a type and a body."
+pub record Frame : Type 0 where
+  pub type : ℕ
+  pub body : List ℕ
+
+abbrev pub Vocoder : Type 0
+Vocoder = List Row
+
+-- the EVRC types and body sizes in octets; "a Rate 1 frame has 171 bits; the low 5 bits of its octet 22 are zero when sent"
+abbrev pub evrc : Vocoder
+evrc =
+    record { kind = 0; octets = 0; spare = 0; sent = true } ∷
+    record { kind = 1; octets = 2; spare = 0; sent = true } ∷
+    record { kind = 3; octets = 10; spare = 0; sent = true } ∷
+    record { kind = 4; octets = 22; spare = 5; sent = true } ∷
+    record { kind = 14; octets = 0; spare = 0; sent = false } ∷
+    []
+
+-- the row of a type; "all others are reserved"
+unfoldable pub rowOf : Vocoder → ℕ → Lookup
+rowOf [] t = Missing
+rowOf (r ∷ v) t = cond (eqb t (r .kind)) (Found r) (rowOf v t)
+
+-- the first row whose body has n octets
+unfoldable pub rowWith : Vocoder → ℕ → Lookup
+rowWith [] n = Missing
+rowWith (r ∷ v) n = cond (eqb n (r .octets)) (Found r) (rowWith v n)
+
+-- "Payloads", type 2: "its type known by the length .. any other length, 0 too, is refused"
+abbrev pub rowOfSize : Vocoder → ℕ → Lookup
+rowOfSize v n = cond (eqb n 0) Missing (rowWith v n)
+
+abbrev pub isThere : Lookup → Bool
+isThere (Found r) = true
+isThere Missing = false
+
+abbrev pub octetsOf : Lookup → ℕ
+octetsOf (Found r) = r .octets
+octetsOf Missing = 0
+
+-- whether a type is in the table
+abbrev pub known : Vocoder → ℕ → Bool
+known v t = isThere (rowOf v t)
+
+-- the octets of the body of a type; 0 if it is not in the table
+abbrev pub size : Vocoder → ℕ → ℕ
+size v t = octetsOf (rowOf v t)
+
+-- no body of the table is longer than the bound
+abbrev pub within : ℕ → Vocoder → Bool
+within m [] = true
+within m (r ∷ v) = leb (r .octets) m && within m v
+
+-- the lowest bits of an octet, as a number
+abbrev pub lowBits : ℕ → ℕ → ℕ
+lowBits x bits = x % 2 ^ bits
+
+-- a body that a row lets be sent: as long as the row says, its type to be sent, the spare low bits of its last octet zero
+abbrev pub sendableAs : Lookup → List ℕ → Bool
+sendableAs Missing b = false
+sendableAs (Found r) b =
+    eqb (length b) (r .octets) && eqb (lowBits (getD b (r .octets - 1) 0) (r .spare)) 0 && r .sent
+
+-- "A frame is sendable if its type is 0, 1, 3 or 4 and, for type 4, those 5 bits are zero."
+abbrev pub sendable : Vocoder → ℕ → List ℕ → Bool
+sendable v t b = sendableAs (rowOf v t) b

@@ -1,0 +1,35 @@
+-- `landing::lv_payload_read` meets its contract. Assumes nothing.
+use mathlib.Core.Path.{sym, _∙_}
+use borrow.Author.Needs.{needs}
+use Rattle.landing.proofs.HostLaws.{packet-refused, packet-read}
+use Rattle.landing.proofs.lv_payload_read.Statement.{statement}
+use Rattle.landing.proofs.lv_payload_read.Tie as tie
+
+read-named-requires : tie.Need-read-named-requires
+read-named-requires c κs = search needs
+
+enum-known-held : tie.Need-enum-known-held
+enum-known-held c = search needs
+
+number-requires : tie.Need-number-requires
+number-requires c κs = search needs
+
+enum-known-held-2 : tie.Need-enum-known-held-2
+enum-known-held-2 c = search needs
+
+returns : tie.Need-returns
+returns c = packet-refused _ _ _ _ _ _ _ (sym (c .before .before .held .given .1) ∙ c .before .before .before .before .read-named .ensures) (c .number .ensures)
+
+returns-2 : tie.Need-returns-2
+returns-2 c = packet-read _ _ _ _ _ _ _ _ _ (sym (c .before .held2 .given .1) ∙ c .before .before .before .read-named .ensures)
+
+pub lv-payload-read-spec : {M : Type 1} → statement M
+lv-payload-read-spec =
+    tie.close
+    (tie.spec
+    read-named-requires
+    enum-known-held
+    number-requires
+    enum-known-held-2
+    returns
+    returns-2)

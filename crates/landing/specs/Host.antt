@@ -1,0 +1,80 @@
+-- Document 01, "Answers by number": what the C calls answer in numbers, and what every out-parameter holds afterwards.
+use Prim.Native.Nat.{ℕ}
+use mathlib.Core.List.{List}
+use mathlib.Core.Bool.{cond}
+use lib.Dec.{eqb}
+use Rattle.frame.specs.Answers.{numberOf}
+use Rattle.frame.specs.Table.{Vocoder}
+use Rattle.frame.specs.Places.{Given}
+use Rattle.frame.specs.Places as places
+use Rattle.frame.specs.declared.Form.the-variants.{HeaderFree, Interleaved}
+use Rattle.frame.specs.declared.Refusal.the-variants.{NotApplicable}
+use Rattle.frame.specs.declared.Located.{Located}
+use Rattle.frame.specs.declared.Located.the-variants as located
+use Rattle.payload.specs.Payload.{Reading, readAs}
+use Rattle.payload.specs.Payload as payload
+use Rattle.payload.specs.Shown.{givenAs}
+use Rattle.payload.specs.declared.Contents.{Contents}
+use Rattle.payload.specs.declared.Contents.the-variants as contents
+use Rattle.frame.specs.Outputs.{Made, writtenOf, outAfter}
+use Rattle.frame.specs.declared.Written.{Written}
+use Rattle.frame.specs.declared.Written.the-variants as written
+use Rattle.recording.specs.declared.Counted.{Counted}
+use Rattle.recording.specs.declared.Counted.the-variants as counted
+use Rattle.landing.specs.declared.Named.{Named}
+use Rattle.landing.specs.declared.Named.the-variants.{Agreed, Refused}
+
+-- form 0 is header-free, its maxima ignored; 1 is interleaved; any other answers 21
+abbrev pub namedForm : ℕ → ℕ → ℕ → Named
+namedForm f l b =
+    cond (eqb f 0) (Agreed HeaderFree)
+    (cond (eqb f 1) (Agreed (Interleaved (record { «max_l» = l; «max_b» = b }))) (Refused NotApplicable))
+
+-- a payload read in the form that the host names
+unfoldable pub readNamed : Vocoder → Named → List ℕ → Reading
+readNamed v (Agreed f) p = readAs v f p
+readNamed v (Refused r) p = payload.refused r
+
+-- and what it gives
+unfoldable pub givenNamed : Vocoder → Named → List ℕ → Given
+givenNamed v (Agreed f) p = givenAs v f p
+givenNamed v (Refused r) p = places.refused r
+
+-- what a host sees of a payload: the answer, and its four numbers L, N, B and D
+pub data PacketTold : Type 0 where
+  packetTold : (answer l n b d : ℕ) → PacketTold
+
+-- 0 and the packet's; "each refusal returns its number and nothing else, and changes nothing lent"
+unfoldable pub packetAfter : Contents → ℕ → ℕ → ℕ → ℕ → PacketTold
+packetAfter (contents.Packet l n b d) l₀ n₀ b₀ d₀ = packetTold 0 l n b d
+packetAfter (contents.Refused r) l₀ n₀ b₀ d₀ = packetTold (numberOf r) l₀ n₀ b₀ d₀
+
+-- what a host sees of a frame: the answer, and its type, start and size
+pub data PlaceTold : Type 0 where
+  placeTold : (answer type start size : ℕ) → PlaceTold
+
+unfoldable pub placeAfter : Located → ℕ → ℕ → ℕ → PlaceTold
+placeAfter (located.At t s z) t₀ s₀ z₀ = placeTold 0 t s z
+placeAfter (located.Refused r) t₀ s₀ z₀ = placeTold (numberOf r) t₀ s₀ z₀
+
+-- what a host sees of a count: the answer, and the number
+pub data CountTold : Type 0 where
+  countTold : (answer count : ℕ) → CountTold
+
+unfoldable pub countAfter : Counted → ℕ → CountTold
+countAfter (counted.Frames n) n₀ = countTold 0 n
+countAfter (counted.Refused r) n₀ = countTold (numberOf r) n₀
+
+unfoldable pub writtenAfter : Written → ℕ → CountTold
+writtenAfter (written.Octets n) n₀ = countTold 0 n
+writtenAfter (written.Refused r) n₀ = countTold (numberOf r) n₀
+
+-- what a host sees of a call that writes: the answer, the octet count, and its output
+pub data WriteTold : Type 0 where
+  writeTold : (answer count : ℕ) (out : List ℕ) → WriteTold
+
+abbrev pub withOutput : CountTold → List ℕ → WriteTold
+withOutput (countTold a n) out = writeTold a n out
+
+unfoldable pub writeAfter : Made → ℕ → List ℕ → WriteTold
+writeAfter made n₀ out = withOutput (writtenAfter (writtenOf made out) n₀) (outAfter made out)

@@ -1,0 +1,187 @@
+// The calls for a host in C (include/landing_voice.h): numbers and byte slices in, a refusal's number or 0 out.
+use frame::Form;
+use frame::Limits;
+use frame::Located;
+use frame::Refusal;
+use frame::Written;
+use payload::Contents;
+use recording::Counted;
+ghost use mathlib.Core.Path.{_≡_};
+ghost use Rattle.frame.specs.Table.{evrc};
+ghost use Rattle.frame.specs.Places.{locatedOf};
+ghost use Rattle.payload.specs.Shown.{contentsOf};
+ghost use Rattle.recording.specs.Recording.{evrcOpening, recorded, recordingMade};
+ghost use Rattle.recording.specs.Shown.{countedOf, givenIn};
+ghost use Rattle.landing.specs.Host.{
+  namedForm,
+  readNamed,
+  givenNamed,
+  packetTold,
+  packetAfter,
+  placeTold,
+  placeAfter,
+  countTold,
+  countAfter,
+  writtenAfter,
+  writeTold,
+  writeAfter,
+};
+
+// The agreed form that a host names by a number and two maxima, or the refusal.
+pub enum Named {
+    Agreed(Form),
+    Refused(Refusal),
+}
+
+fn form_named(form: u8, max_l: u8, max_b: u8) -> Named
+    ensures { λ r. ⌜ r ≡ namedForm form «max_l» «max_b» ⌝ }
+{
+    match form {
+        0 => Named::Agreed(Form::HeaderFree),
+        1 => Named::Agreed(Form::Interleaved(Limits { max_l, max_b })),
+        _ => Named::Refused(Refusal::NotApplicable),
+    }
+}
+
+fn read_named(form: u8, max_l: u8, max_b: u8, payload: &[u8]) -> Contents
+    ensures { λ r. ⌜ r ≡ contentsOf (readNamed evrc (namedForm form «max_l» «max_b») (now (payload .entry))) ⌝ }
+{
+    let named = form_named(form, max_l, max_b);
+    match named {
+        Named::Refused(r) => Contents::Refused(r),
+        Named::Agreed(agreed) => payload::read(agreed, payload),
+    }
+}
+
+fn locate_named(form: u8, max_l: u8, max_b: u8, payload: &[u8], k: usize) -> Located
+    ensures { λ r. ⌜ r ≡ locatedOf (givenNamed evrc (namedForm form «max_l» «max_b») (now (payload .entry))) k ⌝ }
+{
+    let named = form_named(form, max_l, max_b);
+    match named {
+        Named::Refused(r) => Located::Refused(r),
+        Named::Agreed(agreed) => payload::locate(agreed, payload, k),
+    }
+}
+
+// Reads a payload: 0 and its L, N, B and D; or the refusal's number, and nothing written.
+#[no_mangle]
+pub extern "C" fn lv_payload_read(
+    form: u8,
+    max_l: u8,
+    max_b: u8,
+    payload: &[u8],
+    l: &mut u8,
+    n: &mut u8,
+    b: &mut u8,
+    d: &mut u8,
+) -> u8
+    ensures { λ r. ⌜ packetTold r (now (l .exit)) (now (n .exit)) (now (b .exit)) (now (d .exit)) ≡ packetAfter (contentsOf (readNamed evrc (namedForm form «max_l» «max_b») (now (payload .entry)))) (now (l .entry)) (now (n .entry)) (now (b .entry)) (now (d .entry)) ⌝ }
+{
+    let held = read_named(form, max_l, max_b, payload);
+    match held {
+        Contents::Refused(r) => r.number(),
+        Contents::Packet {
+            l: got_l,
+            n: got_n,
+            b: got_b,
+            d: got_d,
+        } => {
+            *l = got_l;
+            *n = got_n;
+            *b = got_b;
+            *d = got_d;
+            0
+        }
+    }
+}
+
+// Tells a host where a frame lies: 0, and its type, start and size; or the refusal's number, and nothing written.
+fn tell_place(place: Located, kind: &mut u8, start: &mut usize, size: &mut usize) -> u8
+    ensures { λ r. ⌜ placeTold r (now (kind .exit)) (now (start .exit)) (now (size .exit)) ≡ placeAfter place (now (kind .entry)) (now (start .entry)) (now (size .entry)) ⌝ }
+{
+    match place {
+        Located::Refused(r) => r.number(),
+        Located::At {
+            kind: got_kind,
+            start: got_start,
+            size: got_size,
+        } => {
+            *kind = got_kind;
+            *start = got_start;
+            *size = got_size;
+            0
+        }
+    }
+}
+
+// Frame k of a payload: its type, and its body's start and size in the payload.
+#[no_mangle]
+pub extern "C" fn lv_payload_frame(
+    form: u8,
+    max_l: u8,
+    max_b: u8,
+    payload: &[u8],
+    k: usize,
+    kind: &mut u8,
+    start: &mut usize,
+    size: &mut usize,
+) -> u8
+    ensures { λ r. ⌜ placeTold r (now (kind .exit)) (now (start .exit)) (now (size .exit)) ≡ placeAfter (locatedOf (givenNamed evrc (namedForm form «max_l» «max_b») (now (payload .entry))) k) (now (kind .entry)) (now (start .entry)) (now (size .entry)) ⌝ }
+{
+    tell_place(
+        locate_named(form, max_l, max_b, payload, k),
+        kind,
+        start,
+        size,
+    )
+}
+
+// Reads a recording: 0 and its frame count; or the refusal's number, and nothing written.
+#[no_mangle]
+pub extern "C" fn lv_recording_read(recording: &[u8], count: &mut usize) -> u8
+    ensures { λ r. ⌜ countTold r (now (count .exit)) ≡ countAfter (countedOf (recorded evrc evrcOpening (now (recording .entry)))) (now (count .entry)) ⌝ }
+{
+    let held = recording::read(recording);
+    match held {
+        Counted::Refused(r) => r.number(),
+        Counted::Frames(n) => {
+            *count = n;
+            0
+        }
+    }
+}
+
+// Frame k of a recording: its type, and its body's start and size in the recording.
+#[no_mangle]
+pub extern "C" fn lv_recording_frame(
+    recording: &[u8],
+    k: usize,
+    kind: &mut u8,
+    start: &mut usize,
+    size: &mut usize,
+) -> u8
+    ensures { λ r. ⌜ placeTold r (now (kind .exit)) (now (start .exit)) (now (size .exit)) ≡ placeAfter (locatedOf (givenIn evrc evrcOpening (now (recording .entry))) k) (now (kind .entry)) (now (start .entry)) (now (size .entry)) ⌝ }
+{
+    tell_place(recording::locate(recording, k), kind, start, size)
+}
+
+// Tells a host what was written: 0 and the octet count; or the refusal's number, and nothing written.
+fn tell_written(made: Written, written: &mut usize) -> u8
+    ensures { λ r. ⌜ countTold r (now (written .exit)) ≡ writtenAfter made (now (written .entry)) ⌝ }
+{
+    match made {
+        Written::Refused(r) => r.number(),
+        Written::Octets(n) => {
+            *written = n;
+            0
+        }
+    }
+}
+
+// Writes a recording of entries.
+#[no_mangle]
+pub extern "C" fn lv_recording_write(entries: &[u8], out: &mut [u8], written: &mut usize) -> u8
+    ensures { λ r. ⌜ writeTold r (now (written .exit)) (now (out .exit)) ≡ writeAfter (recordingMade evrc evrcOpening (now (entries .entry))) (now (written .entry)) (now (out .entry)) ⌝ }
+{
+    tell_written(recording::write(entries, out), written)
+}

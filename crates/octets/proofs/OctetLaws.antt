@@ -1,0 +1,106 @@
+-- Laws of lists of octets. Assumes nothing.
+use Prim.Native.Nat.{ℕ, suc, _+_, _-_, _≤_, _<_}
+use mathlib.Core.Bool.{Bool, true, false, _&&_}
+use mathlib.Core.Path.{_≡_, refl, sym, ap, _∙_}
+use mathlib.Core.List.{List, [], _∷_, _++_}
+use native.Mathlib.Numerals.{add-one}
+use native.Mathlib.Omega.{arith}
+use lib.ListN.{length-drop, length-append, length, take, drop, getD, set, drop-of-length-le}
+use lib.Seq.{take-append-seam, drop-append-add, drop-drop, drop-cons, paste, paste-suc, take-all}
+use lib.Dec.{eqb}
+use borrow.Author.Tests.{eq-eqb, ne-eqb, eqb-true}
+use Rattle.octets.specs.Octets.{over, sameOctets, allZero}
+use Rattle.octets.proofs.Logic.{apart, both-true}
+
+-- ---- sameOctets
+
+pub same-refl : (a : List ℕ) → sameOctets a a ≡ true
+unfolding sameOctets
+same-refl [] = refl
+same-refl (x ∷ xs) = rw (eq-eqb x x refl) (same-refl xs)
+
+pub same-true : (a b : List ℕ) → sameOctets a b ≡ true → a ≡ b
+unfolding sameOctets
+same-true [] [] e = refl
+same-true [] (y ∷ ys) e = apart (cc)
+same-true (x ∷ xs) [] e = apart (cc)
+same-true (x ∷ xs) (y ∷ ys) e =
+    let h = both-true (eqb x y) (sameOctets xs ys) e in
+    let p : x ≡ y = eqb-true x y (h .0) in
+    let q : xs ≡ ys = same-true xs ys (h .1) in
+    cc
+
+pub same-long : (a b : List ℕ) → (length a ≡ length b → ⊥) → sameOctets a b ≡ false
+unfolding sameOctets
+same-long [] [] h = absurd (h refl)
+same-long [] (y ∷ ys) h = refl
+same-long (x ∷ xs) [] h = refl
+same-long (x ∷ xs) (y ∷ ys) h = rw (same-long xs ys (λ e. h (ap suc e))) (both-false (eqb x y))
+  where
+    both-false : (t : Bool) → t && false ≡ false
+    both-false true = refl
+    both-false false = refl
+
+-- a loop over both, at i: what is left decides; an equal pair leaves it to the rest; a pair that differs decides; at the end they are the same
+module _ (a b : List ℕ) (i : ℕ) (left : sameOctets a b ≡ sameOctets (drop i a) (drop i b)) where
+  same-step : i < length a → i < length b → sameOctets a b ≡ (eqb (getD a i 0) (getD b i 0) && sameOctets (drop (i + 1) a) (drop (i + 1) b))
+  unfolding sameOctets
+  same-step ha hb = left ∙ rw (add-one, drop-cons a i 0, drop-cons b i 0)
+
+  pub same-again : i < length a → i < length b → getD a i 0 ≡ getD b i 0 → sameOctets a b ≡ sameOctets (drop (i + 1) a) (drop (i + 1) b)
+  same-again ha hb e = same-step ha hb ∙ simp (eq-eqb _ _ e)
+
+  pub same-differ : i < length a → i < length b → (getD a i 0 ≡ getD b i 0 → ⊥) → false ≡ sameOctets a b
+  same-differ ha hb e = sym (same-step ha hb ∙ simp (ne-eqb _ _ e))
+
+  pub same-end : length a ≡ length b → length a ≤ i → true ≡ sameOctets a b
+  unfolding sameOctets
+  same-end e h =
+      let p : drop i a ≡ [] = drop-of-length-le a h in
+      let k : length b ≤ i = omega arith in
+      let q : drop i b ≡ [] = drop-of-length-le b k in
+      sym (left ∙ simp (p, q))
+
+-- ---- allZero
+
+module _ (s : List ℕ) (i : ℕ) (left : allZero s ≡ allZero (drop i s)) where
+  zero-step : i < length s → allZero s ≡ (eqb (getD s i 0) 0 && allZero (drop (i + 1) s))
+  unfolding allZero
+  zero-step h = left ∙ rw (add-one, drop-cons s i 0)
+
+  pub zero-again : i < length s → getD s i 0 ≡ 0 → allZero s ≡ allZero (drop (i + 1) s)
+  zero-again h e = zero-step h ∙ simp (eq-eqb _ _ e)
+
+  pub zero-differ : i < length s → (getD s i 0 ≡ 0 → ⊥) → false ≡ allZero s
+  zero-differ h e = sym (zero-step h ∙ simp (ne-eqb _ _ e))
+
+  pub zero-end : length s ≤ i → true ≡ allZero s
+  unfolding allZero
+  zero-end h = let p : drop i s ≡ [] = drop-of-length-le s h in sym (left ∙ simp p)
+
+-- ---- over
+
+-- a loop that writes s over d, at i
+pub copy-more : (d : List ℕ) (at : ℕ) (s dst : List ℕ) (i : ℕ) → dst ≡ paste d at s i → at + length s ≤ length d → i < length s
+    → set dst (at + i) (getD s i 0) ≡ paste d at s (i + 1)
+copy-more d at s dst i e hd hs = rw (e, add-one) (paste-suc d at s i 0 (omega arith) hs)
+
+pub copy-all : (d : List ℕ) (at : ℕ) (s dst : List ℕ) (i : ℕ) → dst ≡ paste d at s i → i ≤ length s → length s ≤ i → dst ≡ over d at s
+unfolding over
+copy-all d at s dst i e h k =
+    let p : i ≡ length s = omega arith in
+    let q : take i s ≡ s = take-all i s k in
+    e ∙ ap (λ (l : List ℕ). take at d ++ l ++ drop (at + i) d) q ∙ ap (λ (n : ℕ). take at d ++ s ++ drop (at + n) d) p
+
+-- one list written behind another is both written together
+pub over-over : (d xs ys : List ℕ) → over (over d 0 xs) (length xs) ys ≡ over d 0 (xs ++ ys)
+unfolding over
+over-over d xs ys =
+    let a : take (length xs) (xs ++ drop (0 + length xs) d) ≡ xs = take-append-seam xs (drop (0 + length xs) d) in
+    let b : drop (length xs + length ys) (xs ++ drop (0 + length xs) d) ≡ drop (length ys) (drop (0 + length xs) d) = drop-append-add xs (drop (0 + length xs) d) (length ys) in
+    let c : 0 + length xs + length ys ≡ 0 + length (xs ++ ys) = omega (arith, length-append xs ys) in
+    rw (a, b, drop-drop (length ys) (0 + length xs) d, c)
+
+-- ---- a part that goes to the end, `&s[n..]`
+pub to-the-end : (p : List ℕ) (n : ℕ) → take (length p - n) (drop n p) ≡ drop n p
+to-the-end p n = take-all (length p - n) (drop n p) (omega (arith, length-drop n p))

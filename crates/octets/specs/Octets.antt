@@ -1,0 +1,22 @@
+-- Lists of octets, as the contracts speak of them. Document 01 has no section on these: they are words for its others.
+use Prim.Native.Nat.{ℕ, _+_}
+use mathlib.Core.Bool.{Bool, true, false, _&&_}
+use mathlib.Core.List.{List, [], _∷_, _++_}
+use lib.ListN.{length, take, drop}
+use lib.Dec.{eqb}
+
+-- d with s written over it from index `at` on
+unfoldable pub over : List ℕ → ℕ → List ℕ → List ℕ
+over d at s = take at d ++ s ++ drop (at + length s) d
+
+-- the two lists are equal, as a test
+unfoldable pub sameOctets : List ℕ → List ℕ → Bool
+sameOctets [] [] = true
+sameOctets [] (y ∷ ys) = false
+sameOctets (x ∷ xs) [] = false
+sameOctets (x ∷ xs) (y ∷ ys) = eqb x y && sameOctets xs ys
+
+-- every octet is 0, as a test
+unfoldable pub allZero : List ℕ → Bool
+allZero [] = true
+allZero (x ∷ xs) = eqb x 0 && allZero xs

@@ -1,0 +1,215 @@
+-- Where the frames of a payload that was read lie. Assumes nothing.
+use Prim.Native.Nat.{ℕ, zero, suc, _+_, _-_, _≤_, _<_}
+use mathlib.Core.Path.{_≡_, refl, sym, ap, ap₂, subst, _∙_}
+use mathlib.Core.List.{List, [], _∷_, map}
+use mathlib.Core.Bool.{Bool, true, false, cond}
+use native.Mathlib.Omega.{arith}
+use native.Mathlib.Nat.{add-zero, zero-add, add-comm, le-of-suc-le-suc}
+use native.Mathlib.Numerals.{add-one, one-add}
+use lib.ListN.{length, take, drop, getD, length-drop, length-map, List·getD-map}
+use lib.Seq.{length-take-le, take-take, getD-take, drop-drop, getD-drop, take-all}
+use lib.Dec.{ltb}
+use borrow.Author.Tests.{ltb-false}
+use Rattle.octets.proofs.Logic.{apart}
+use Rattle.frame.specs.Table.{Vocoder, Frame, size, rowOfSize}
+use Rattle.frame.specs.Places.{taken, frameAt, locatedOf}
+use Rattle.frame.specs.Agreed.{inRange}
+use Rattle.frame.specs.declared.Limits.{Limits}
+use Rattle.frame.specs.declared.Row.{Row}
+use Rattle.frame.specs.declared.Lookup.{Lookup}
+use Rattle.frame.specs.declared.Lookup.the-variants.{Found, Missing}
+use Rattle.frame.specs.declared.Form.{Form}
+use Rattle.frame.specs.declared.Form.the-variants.{HeaderFree, Interleaved}
+use Rattle.frame.specs.declared.Refusal.{Refusal}
+use Rattle.frame.specs.declared.Refusal.the-variants.{NotApplicable, HeaderFreeLength}
+use Rattle.frame.specs.declared.Located.the-variants as located
+use Rattle.frame.proofs.PlaceLaws.{Laid, LaidIn, asked-refused, asked-past, asked}
+use Rattle.frame.specs.Entry.{typeOf}
+use Rattle.payload.specs.Payload.{Reading, packet, refused, Table, table, fault, toc, total, cut, bodies, interleaved, oneBody, readAs, lOf, nOf}
+use Rattle.payload.specs.Shown.{contentsOf, givenOf, givenAs}
+use Rattle.payload.specs.declared.Contents.the-variants.{Packet, Refused}
+use Rattle.payload.proofs.Tables.{Sound, toc-sound}
+use Rattle.payload.proofs.Checks.{length-cut}
+
+-- ---- sums of sizes
+total-suc : (v : Vocoder) (ts : List ℕ) (k : ℕ) → k < length ts → total v (take (suc k) ts) ≡ total v (take k ts) + size v (getD ts k 0)
+total-suc v [] k h = absurd (omega arith)
+total-suc v (t ∷ ts) zero h = omega arith
+total-suc v (t ∷ ts) (suc k) h = let i = total-suc v ts k (le-of-suc-le-suc h) in omega arith
+
+-- entry i of the table of contents
+type-at : (p : List ℕ) (i : ℕ) → getD (map typeOf (drop 1 p)) i 0 ≡ typeOf (getD p (i + 1) 0)
+type-at p i = List·getD-map typeOf (drop 1 p) i 0 ∙ ap typeOf (getD-drop 1 p i 0 ∙ ap (λ (k : ℕ). getD p k 0) (add-comm 1 i))
+
+pub start-next : (v : Vocoder) (p : List ℕ) (i : ℕ) → i + 1 < length p → total v (take (i + 1) (map typeOf (drop 1 p))) ≡ total v (take i (map typeOf (drop 1 p))) + size v (typeOf (getD p (i + 1) 0))
+start-next v p i h =
+    rw (← type-at p i, add-one)
+    (total-suc v (map typeOf (drop 1 p)) i (omega (arith, length-map (drop 1 p) typeOf, length-drop 1 p)))
+
+-- ---- the frames that are cut
+cut-type : (v : Vocoder) (ts bs : List ℕ) (k : ℕ) → frameAt (cut v ts bs) k .type ≡ getD ts k 0
+cut-type v [] bs k = refl
+cut-type v (t ∷ ts) bs zero = refl
+cut-type v (t ∷ ts) bs (suc k) = cut-type v ts (drop (size v t) bs) k
+
+cut-size : (v : Vocoder) (ts bs : List ℕ) (k : ℕ) → total v ts ≤ length bs → k < length ts → length (frameAt (cut v ts bs) k .body) ≡ size v (getD ts k 0)
+cut-size v [] bs k h q = absurd (omega arith)
+cut-size v (t ∷ ts) bs zero h q = length-take-le (size v t) bs (omega arith)
+cut-size v (t ∷ ts) bs (suc k) h q =
+    cut-size v ts (drop (size v t) bs) k (omega (arith, length-drop (size v t) bs)) (le-of-suc-le-suc q)
+
+cut-taken : (v : Vocoder) (ts bs : List ℕ) (k : ℕ) → total v ts ≤ length bs → taken 0 (take k (cut v ts bs)) ≡ total v (take k ts)
+cut-taken v ts bs zero h = refl
+cut-taken v [] bs (suc k) h = refl
+cut-taken v (t ∷ ts) bs (suc k) h =
+    ap₂ _+_ (zero-add _ ∙ length-take-le (size v t) bs (omega arith))
+    (cut-taken v ts (drop (size v t) bs) k (omega (arith, length-drop (size v t) bs)))
+
+cut-laid : (v : Vocoder) (ts : List ℕ) (p : List ℕ) (h : ℕ) → h + total v ts ≤ length p → Laid p h 0 (cut v ts (drop h p))
+cut-laid v [] p h q = tt
+cut-laid v (t ∷ ts) p h q =
+    let n : length (take (size v t) (drop h p)) ≡ size v t = length-take-le (size v t) (drop h p) (omega (arith, length-drop h p)) in
+    let i = cut-laid v ts p (h + size v t) (omega arith) in (
+      rw (n, add-zero),
+      omega arith,
+      rw (n, add-zero, drop-drop (size v t) h p) i,
+    )
+
+-- ---- a payload that was read as a packet
+passed : (b : Bool) (r : Refusal) (x : Reading) (l n d : ℕ) (fs : List Frame) → cond b (refused r) x ≡ packet l n d fs → (b ≡ false) × (x ≡ packet l n d fs)
+passed true r x l n d fs e = apart (cc)
+passed false r x l n d fs e = (refl, e)
+
+-- its frames, of the types in the table of contents, lie one after the other behind that table and fill the payload
+record Framed (v : Vocoder) (p : List ℕ) (fs : List Frame) : Type 0 where
+  ts : List ℕ
+  frames : fs ≡ cut v ts (drop (1 + length ts) p)
+  types : ts ≡ take (length ts) (map typeOf (drop 1 p))
+  fills : 1 + length ts + total v ts ≡ length p
+
+framed-table : (v : Vocoder) (max l₀ n₀ l n d : ℕ) (x : ℕ) (es : List ℕ) (fs : List Frame) (w : Table) → Sound max 0 es w → bodies v l₀ n₀ w ≡ packet l n d fs → Framed v (x ∷ es) fs
+unfolding bodies
+framed-table v max l₀ n₀ l n d x es fs (fault r) h e = apart (cc)
+framed-table v max l₀ n₀ l n d x es fs (table ts d′ rest) h e =
+    let a = passed (ltb (length rest) (total v ts)) _ _ l n d fs e in
+    let b = passed (ltb (total v ts) (length rest)) _ _ l n d fs (a .1) in
+    let q : fs ≡ cut v ts rest = cc (b .1) in
+    record {
+      ts = ts;
+      frames = q ∙ ap (cut v ts) (h .follow ∙ simp one-add);
+      types = h .types;
+      fills = omega (arith, ltb-false (length rest) (total v ts) (a .0), ltb-false (total v ts) (length rest) (b .0), ap length (h .follow), length-drop (length ts) es, h .within);
+    }
+
+framed : (v : Vocoder) (m : Limits) (p : List ℕ) (l n d : ℕ) (fs : List Frame) → readAs v (Interleaved m) p ≡ packet l n d fs → Framed v p fs
+unfolding readAs interleaved
+framed v m p l n d fs e = at-range (inRange m) e
+  where
+    at-list : (q : List ℕ) → interleaved v m q ≡ packet l n d fs → Framed v q fs
+    at-list [] k = apart (cc)
+    at-list (x ∷ es) k =
+        let a = passed (ltb (lOf x) (nOf x)) _ _ l n d fs k in
+        let b = passed (ltb (m .«max_l») (lOf x)) _ _ l n d fs (a .1) in
+        framed-table v (m .«max_b») (lOf x) (nOf x) l n d x es fs (toc v (m .«max_b») 0 es) (toc-sound v (m .«max_b») 0 es) (b .1)
+
+    at-range : (b : Bool) → cond b (interleaved v m p) (refused NotApplicable) ≡ packet l n d fs → Framed v p fs
+    at-range true k = at-list p k
+    at-range false k = apart (cc)
+
+module _ (v : Vocoder) (p : List ℕ) (fs : List Frame) (o : Framed v p fs) where
+  many : length fs ≡ length (o .ts)
+  many = ap length (o .frames) ∙ length-cut v (o .ts) (drop (1 + length (o .ts)) p)
+
+  framed-laid : Laid p (1 + length fs) 0 fs
+  framed-laid =
+      let i = cut-laid v (o .ts) p (1 + length (o .ts)) (omega (arith, o .fills)) in
+      subst (λ (n : ℕ). Laid p (1 + n) 0 fs) (sym many) (subst (Laid p (1 + length (o .ts)) 0) (sym (o .frames)) i)
+
+-- entry k and the bodies before body k, as the octets have them
+abbrev pub typeIn : List ℕ → ℕ → ℕ
+typeIn p k = typeOf (getD p (k + 1) 0)
+
+abbrev pub before : Vocoder → List ℕ → ℕ → ℕ
+before v p k = total v (take k (map typeOf (drop 1 p)))
+
+record Stands (v : Vocoder) (p : List ℕ) (fs : List Frame) (k : ℕ) : Type 0 where
+  type : frameAt fs k .type ≡ typeIn p k
+  start : taken 0 (take k fs) ≡ before v p k
+  octets : length (frameAt fs k .body) ≡ size v (typeIn p k)
+  entry : k + 1 < length p
+
+stands : (v : Vocoder) (p : List ℕ) (fs : List Frame) (k : ℕ) → Framed v p fs → k < length fs → Stands v p fs k
+stands v p fs k o h =
+    let X = map typeOf (drop 1 p) in
+    let bs = drop (1 + length (o .ts)) p in
+    let n = many v p fs o in
+    let h′ : k < length (o .ts) = omega arith in
+    let fit : total v (o .ts) ≤ length bs = omega (arith, o .fills, length-drop (1 + length (o .ts)) p) in
+    let t : getD (o .ts) k 0 ≡ typeIn p k = ap (λ (l : List ℕ). getD l k 0) (o .types) ∙ getD-take (length (o .ts)) X k 0 h′ ∙ type-at p k in
+    record {
+      type = ap (λ (l : List Frame). frameAt l k .type) (o .frames) ∙ cut-type v (o .ts) bs k ∙ t;
+      start = ap (λ (l : List Frame). taken 0 (take k l)) (o .frames) ∙ cut-taken v (o .ts) bs k fit ∙ ap (λ (l : List ℕ). total v (take k l)) (o .types) ∙ ap (total v) (take-take k (length (o .ts)) X (omega arith));
+      octets = ap (λ (l : List Frame). length (frameAt l k .body)) (o .frames) ∙ cut-size v (o .ts) bs k fit h′ ∙ ap (size v) t;
+      entry = omega (arith, o .fills);
+    }
+
+-- ---- frame k is asked of a type 1 payload
+pub show-refused : (f : Form) (w : Reading) (k : ℕ) (r : Refusal) → Refused r ≡ contentsOf w → located.Refused r ≡ locatedOf (givenOf f w) k
+unfolding contentsOf givenOf
+show-refused f (refused r′) k r e = let q : r ≡ r′ = cc in ap located.Refused q ∙ asked-refused r′ k
+show-refused f (packet l n d fs) k r e = apart (cc)
+
+pub show-past : (f : Form) (w : Reading) (k l n b d : ℕ) → Packet l n b d ≡ contentsOf w → b ≤ k → located.Refused NotApplicable ≡ locatedOf (givenOf f w) k
+unfolding contentsOf givenOf
+show-past f (refused r) k l n b d e h = apart (cc)
+show-past f (packet l′ n′ d′ fs) k l n b d e h = let q : b ≡ length fs = cc in asked-past _ _ fs k (omega arith)
+
+pub record Shows (v : Vocoder) (m : Limits) (p : List ℕ) (k b : ℕ) : Type 0 where
+  pub place : located.At (typeIn p k) (1 + b + before v p k) (size v (typeIn p k)) ≡ locatedOf (givenAs v (Interleaved m) p) k
+  pub entry : k + 1 < length p
+
+pub shows : (v : Vocoder) (m : Limits) (p : List ℕ) (k l n b d : ℕ) → Packet l n b d ≡ contentsOf (readAs v (Interleaved m) p) → k < b → Shows v m p k b
+unfolding contentsOf givenOf givenAs
+shows v m p k l n b d e h = go (readAs v (Interleaved m) p) refl e
+  where
+    go : (w : Reading) → readAs v (Interleaved m) p ≡ w → Packet l n b d ≡ contentsOf w → Shows v m p k b
+    go (refused r) q x = apart (cc)
+    go (packet l′ n′ d′ fs) q x =
+        let c : b ≡ length fs = cc in
+        let h′ : k < length fs = omega arith in
+        let s = stands v p fs k (framed v m p l′ n′ d′ fs q) h′ in
+        let z : 1 + b + before v p k ≡ 1 + length fs + taken 0 (take k fs) + 0 = omega (arith, s .start) in
+        record {
+          place = rw q (cc (s .type, s .octets, z, asked (1 + length fs) 0 fs k h′));
+          entry = s .entry;
+        }
+
+-- ---- frame k is asked of a type 2 payload
+pub free-refused : (v : Vocoder) (p : List ℕ) (k : ℕ) → rowOfSize v (length p) ≡ Missing → located.Refused HeaderFreeLength ≡ locatedOf (givenAs v HeaderFree p) k
+unfolding readAs oneBody givenOf givenAs
+free-refused v p k e = rw e (asked-refused HeaderFreeLength k)
+
+module _ (v : Vocoder) (p : List ℕ) (k : ℕ) (r : Row) (e : rowOfSize v (length p) ≡ Found r) where
+  pub free-past : 0 < k → located.Refused NotApplicable ≡ locatedOf (givenAs v HeaderFree p) k
+  unfolding readAs oneBody givenOf givenAs
+  free-past h = rw e (asked-past 0 0 _ k (omega arith))
+
+  pub free-frame : k ≤ 0 → located.At (r .kind) 0 (length p) ≡ locatedOf (givenAs v HeaderFree p) k
+  unfolding readAs oneBody givenOf givenAs
+  free-frame h = let z : k ≡ 0 = omega arith in rw (e, z) (asked 0 0 (record { type = r .kind; body = p } ∷ []) 0 (omega arith))
+
+-- ---- what a payload gives lies in it
+free-laid : (l : Lookup) (p : List ℕ) → LaidIn p (givenOf HeaderFree (oneBody l p))
+unfolding givenOf oneBody
+free-laid Missing p = tt
+free-laid (Found r) p = (take-all (length p) p (omega arith), omega arith, tt)
+
+in-laid : (v : Vocoder) (m : Limits) (p : List ℕ) (w : Reading) → readAs v (Interleaved m) p ≡ w → LaidIn p (givenOf (Interleaved m) w)
+unfolding givenOf
+in-laid v m p (refused r) e = tt
+in-laid v m p (packet l n d fs) e = framed-laid v p fs (framed v m p l n d fs e)
+
+pub laid-as : (v : Vocoder) (f : Form) (p : List ℕ) → LaidIn p (givenAs v f p)
+unfolding readAs givenAs
+laid-as v HeaderFree p = free-laid (rowOfSize v (length p)) p
+laid-as v (Interleaved m) p = in-laid v m p (readAs v (Interleaved m) p) refl

@@ -1,0 +1,93 @@
+-- Document 01, "Payloads": what a payload is read as, over any frame table.
+use Prim.Native.Nat.{ℕ, _+_, _/_, _%_}
+use mathlib.Core.List.{List, [], _∷_}
+use mathlib.Core.Bool.{cond}
+use lib.Dec.{leb, ltb}
+use lib.ListN.{length, take, drop}
+use Rattle.frame.specs.Table.{Vocoder, Frame, known, size, rowOfSize}
+use Rattle.frame.specs.Entry.{typeOf, dOf, more}
+use Rattle.frame.specs.Agreed.{inRange}
+use Rattle.frame.specs.declared.Limits.{Limits}
+use Rattle.frame.specs.declared.Lookup.{Lookup}
+use Rattle.frame.specs.declared.Lookup.the-variants.{Found, Missing}
+use Rattle.frame.specs.declared.Form.{Form}
+use Rattle.frame.specs.declared.Form.the-variants.{HeaderFree, Interleaved}
+use Rattle.frame.specs.declared.Refusal.{Refusal}
+use Rattle.frame.specs.declared.Refusal.the-variants.{
+  NoOctet,
+  IndexPastLength,
+  LengthPastMaximum,
+  TableCut,
+  ReservedType,
+  TooManyFrames,
+  BodiesCut,
+  OctetsLeft,
+  HeaderFreeLength,
+  NotApplicable,
+}
+
+-- what a payload is read as: L, N, D and the frames, or the refusal
+pub data Reading : Type 0 where
+  packet : (l n d : ℕ) → List Frame → Reading
+  refused : Refusal → Reading
+
+-- "Octet 0 is RR x 64 + L x 8 + N. RR is .. ignored when read."
+abbrev pub lOf : ℕ → ℕ
+lOf h = h / 8 % 8
+
+abbrev pub nOf : ℕ → ℕ
+nOf h = h % 8
+
+-- a table of contents: the types, "the last entry's" D, and the octets behind it; or the fault
+pub data Table : Type 0 where
+  table : (types : List ℕ) (d : ℕ) (rest : List ℕ) → Table
+  fault : Refusal → Table
+
+abbrev pub put : ℕ → Table → Table
+put t (table ts d rest) = table (t ∷ ts) d rest
+put t (fault r) = fault r
+
+-- the table of contents at the front of a list, with `at` entries before it and at most `max` in all:
+-- "ends at the first fault it meets"; "for each entry the order is 4, 6, 5"
+unfoldable pub toc : Vocoder → ℕ → ℕ → List ℕ → Table
+toc v max at [] = fault TableCut
+toc v max at (e ∷ es) =
+    cond (leb max at) (fault TooManyFrames)
+    (cond (known v (typeOf e))
+    (cond (more e) (put (typeOf e) (toc v max (at + 1) es)) (table (typeOf e ∷ []) (dOf e) es))
+    (fault ReservedType))
+
+-- the octets that the bodies of these types take
+abbrev pub total : Vocoder → List ℕ → ℕ
+total v [] = 0
+total v (t ∷ ts) = size v t + total v ts
+
+-- "Then the bodies, in the entries' order."
+abbrev pub cut : Vocoder → List ℕ → List ℕ → List Frame
+cut v [] bs = []
+cut v (t ∷ ts) bs = record { type = t; body = take (size v t) bs } ∷ cut v ts (drop (size v t) bs)
+
+-- "After the last entry: 7, 8."
+unfoldable pub bodies : Vocoder → ℕ → ℕ → Table → Reading
+bodies v l n (fault r) = refused r
+bodies v l n (table ts d rest) =
+    cond (ltb (length rest) (total v ts)) (refused BodiesCut)
+    (cond (ltb (total v ts) (length rest)) (refused OctetsLeft) (packet l n d (cut v ts rest)))
+
+-- Type 1, under maxima in range: 1, 2, 3, then the table of contents and the bodies
+unfoldable pub interleaved : Vocoder → Limits → List ℕ → Reading
+interleaved v m [] = refused NoOctet
+interleaved v m (h ∷ es) =
+    cond (ltb (lOf h) (nOf h)) (refused IndexPastLength)
+    (cond (ltb (m .«max_l») (lOf h)) (refused LengthPastMaximum)
+    (bodies v (lOf h) (nOf h) (toc v (m .«max_b») 0 es)))
+
+-- Type 2: "one body and nothing else, its type known by the length"; "read as a group with L = 0, N = 0, B = 1, and D is reported as 0"
+unfoldable pub oneBody : Lookup → List ℕ → Reading
+oneBody Missing p = refused HeaderFreeLength
+oneBody (Found r) p = packet 0 0 0 (record { type = r .kind; body = p } ∷ [])
+
+-- a payload read in the agreed form; "a reader given maxima out of range answers 21 first"
+unfoldable pub readAs : Vocoder → Form → List ℕ → Reading
+readAs v HeaderFree p = oneBody (rowOfSize v (length p)) p
+readAs v (Interleaved m) p = cond (inRange m) (interleaved v m p) (refused NotApplicable)

@@ -1,0 +1,212 @@
+// Reads payloads (document 01, "Payloads"): octet 0, the table of contents, the bodies; or one body and nothing else.
+use frame::Form;
+use frame::Limits;
+use frame::Located;
+use frame::Lookup;
+use frame::Opened;
+use frame::Refusal;
+ghost use mathlib.Core.Path.{_≡_};
+ghost use Prim.Native.Nat.{_+_, _<_};
+ghost use mathlib.Core.List.{map};
+ghost use lib.ListN.{length, drop, take};
+ghost use Rattle.frame.specs.Table.{evrc};
+ghost use Rattle.frame.specs.Places.{locatedOf, bodyOf, startOf, VeryPart};
+ghost use Rattle.frame.specs.declared.Form.the-variants.{HeaderFree, Interleaved};
+ghost use Rattle.frame.specs.Entry.{typeOf};
+ghost use Rattle.payload.specs.Payload.{readAs, interleaved, toc, total};
+ghost use Rattle.payload.specs.Shown.{contentsOf, entriesOf, givenAs};
+
+// What a payload holds: L, N, B and D, or the refusal.
+pub enum Contents {
+    Packet { l: u8, n: u8, b: u8, d: u8 },
+    Refused(Refusal),
+}
+
+// What the walk over a table of contents yields: the count of the entries, the size of their bodies and the last entry's D,
+// or the refusal.
+pub enum Entries {
+    Table { count: usize, size: usize, d: u8 },
+    Fault(Refusal),
+}
+
+// The walk over the table of contents, which ends at the first fault it meets.
+fn walk(max_b: u8, payload: &[u8]) -> Entries
+    ensures { λ r. ⌜ r ≡ entriesOf evrc (toc evrc «max_b» 0 (drop 1 (now (payload .entry)))) ⌝ }
+{
+    let max = max_b as usize;
+    let mut count: usize = 0;
+    let mut size: usize = 0;
+    'entries: loop {
+        let at = count + 1;
+        if payload.len() <= at {
+            break 'entries Entries::Fault(Refusal::TableCut);
+        }
+        if max <= count {
+            break 'entries Entries::Fault(Refusal::TooManyFrames);
+        }
+        let entry = payload[at];
+        let found = frame::row_of(entry % 64);
+        match found {
+            Lookup::Missing => {
+                break 'entries Entries::Fault(Refusal::ReservedType);
+            }
+            Lookup::Found(row) => {
+                size = size + row.octets;
+                count = at;
+                if entry < 128 {
+                    break 'entries Entries::Table {
+                        count,
+                        size,
+                        d: entry / 64 % 2,
+                    };
+                }
+            }
+        }
+    }
+}
+
+// Type 1, under limits that are in range: octet 0, then the walk, then the bodies.
+fn read_within(limits: Limits, payload: &[u8]) -> Contents
+    ensures { λ r. ⌜ r ≡ contentsOf (interleaved evrc limits (now (payload .entry))) ⌝ }
+{
+    if payload.len() < 1 {
+        return Contents::Refused(Refusal::NoOctet);
+    }
+    let head = payload[0];
+    let l = head / 8 % 8;
+    let n = head % 8;
+    if l < n {
+        return Contents::Refused(Refusal::IndexPastLength);
+    }
+    if limits.max_l < l {
+        return Contents::Refused(Refusal::LengthPastMaximum);
+    }
+    let entries = walk(limits.max_b, payload);
+    match entries {
+        Entries::Fault(r) => Contents::Refused(r),
+        Entries::Table { count, size, d } => {
+            let left = payload.len() - 1 - count;
+            if left < size {
+                return Contents::Refused(Refusal::BodiesCut);
+            }
+            if size < left {
+                return Contents::Refused(Refusal::OctetsLeft);
+            }
+            let b = count as u8;
+            Contents::Packet { l, n, b, d }
+        }
+    }
+}
+
+// Type 1: limits out of range are refused first.
+fn read_interleaved(limits: Limits, payload: &[u8]) -> Contents
+    ensures { λ r. ⌜ r ≡ contentsOf (readAs evrc (Interleaved limits) (now (payload .entry))) ⌝ }
+{
+    let opened = Limits::open(limits.max_l, limits.max_b);
+    match opened {
+        Opened::Refused(r) => Contents::Refused(r),
+        Opened::Agreed(agreed) => read_within(agreed, payload),
+    }
+}
+
+// Type 2: read as a group with L = 0, N = 0, B = 1, and D is reported as 0.
+fn read_header_free(payload: &[u8]) -> Contents
+    ensures { λ r. ⌜ r ≡ contentsOf (readAs evrc HeaderFree (now (payload .entry))) ⌝ }
+{
+    let found = frame::row_of_size(payload.len());
+    match found {
+        Lookup::Missing => Contents::Refused(Refusal::HeaderFreeLength),
+        Lookup::Found(_) => Contents::Packet {
+            l: 0,
+            n: 0,
+            b: 1,
+            d: 0,
+        },
+    }
+}
+
+// What a payload holds, read in the agreed form.
+pub fn read(form: Form, payload: &[u8]) -> Contents
+    ensures { λ r. ⌜ r ≡ contentsOf (readAs evrc form (now (payload .entry))) ⌝ }
+{
+    match form {
+        Form::HeaderFree => read_header_free(payload),
+        Form::Interleaved(limits) => read_interleaved(limits, payload),
+    }
+}
+
+// The start of body k: behind octet 0, the b entries, and the bodies before it.
+fn body_start(payload: &[u8], b: u8, k: usize) -> usize
+    requires { ⌜ (k < 256) × (k < length (now payload)) ⌝ }
+    ensures { λ r. ⌜ r ≡ 1 + b + total evrc (take k (map typeOf (drop 1 (now (payload .entry))))) ⌝ }
+{
+    let mut start = 1 + b as usize;
+    let mut i: usize = 0;
+    while i < k {
+        let at = i + 1;
+        start = start + frame::body_size(payload[at] % 64);
+        i = at;
+    }
+    start
+}
+
+fn locate_interleaved(limits: Limits, payload: &[u8], k: usize) -> Located
+    ensures { λ r. ⌜ r ≡ locatedOf (givenAs evrc (Interleaved limits) (now (payload .entry))) k ⌝ }
+{
+    let held = read_interleaved(limits, payload);
+    match held {
+        Contents::Refused(r) => Located::Refused(r),
+        Contents::Packet {
+            l: _,
+            n: _,
+            b,
+            d: _,
+        } => {
+            let count = b as usize;
+            if count <= k {
+                return Located::Refused(Refusal::NotApplicable);
+            }
+            let at = k + 1;
+            let kind = payload[at] % 64;
+            let start = body_start(payload, b, k);
+            let size = frame::body_size(kind);
+            Located::At { kind, start, size }
+        }
+    }
+}
+
+fn locate_header_free(payload: &[u8], k: usize) -> Located
+    ensures { λ r. ⌜ r ≡ locatedOf (givenAs evrc HeaderFree (now (payload .entry))) k ⌝ }
+{
+    let found = frame::row_of_size(payload.len());
+    match found {
+        Lookup::Missing => Located::Refused(Refusal::HeaderFreeLength),
+        Lookup::Found(row) => {
+            if 0 < k {
+                return Located::Refused(Refusal::NotApplicable);
+            }
+            Located::At {
+                kind: row.kind,
+                start: 0,
+                size: payload.len(),
+            }
+        }
+    }
+}
+
+// Where frame k of a payload lies; 21 where k is not below the frame count.
+pub fn locate(form: Form, payload: &[u8], k: usize) -> Located
+    ensures { λ r. ⌜ r ≡ locatedOf (givenAs evrc form (now (payload .entry))) k ⌝ }
+{
+    match form {
+        Form::HeaderFree => locate_header_free(payload, k),
+        Form::Interleaved(limits) => locate_interleaved(limits, payload, k),
+    }
+}
+
+// The body of frame k: the very part of the payload where it lies; empty on a refusal.
+pub fn body(form: Form, payload: &[u8], k: usize) -> &[u8]
+    ensures { λ r. ⌜ VeryPart (payload .entry) (startOf (locatedOf (givenAs evrc form (now (payload .entry))) k)) (bodyOf (givenAs evrc form (now (payload .entry))) k) r ⌝ }
+{
+    frame::part(payload, locate(form, payload, k))
+}

@@ -1,0 +1,104 @@
+-- Entries that were read: what stands where. Assumes nothing.
+use Prim.Native.Nat.{ℕ, zero, suc, _+_, _-_, _≤_, _<_}
+use mathlib.Core.Path.{_≡_, refl, sym, ap, _∙_}
+use mathlib.Core.List.{List, [], _∷_}
+use mathlib.Core.Bool.{Bool, true, false}
+use native.Mathlib.Nat.{add-zero, le-of-suc-le-suc, add-sub-cancel-left}
+use native.Mathlib.Omega.{arith}
+use lib.Dec.{ltb}
+use lib.ListN.{length, take, drop, getD, length-drop}
+use lib.Seq.{drop-cons, length-take-le}
+use borrow.Author.Tests.{ltb-true, ltb-false}
+use Rattle.octets.proofs.Logic.{apart}
+use Rattle.frame.specs.Table.{Vocoder, Frame, rowOf, known, size}
+use Rattle.frame.specs.Entry.{typeOf}
+use Rattle.frame.specs.Places.{taken, frameAt, noFrame}
+use Rattle.frame.specs.declared.Row.{Row}
+use Rattle.frame.specs.declared.Lookup.{Lookup}
+use Rattle.frame.specs.declared.Lookup.the-variants.{Found, Missing}
+use Rattle.frame.proofs.TableLaws.{found-known, found-size}
+use Rattle.frame.proofs.PlaceLaws.{Laid}
+use Rattle.recording.specs.Entries.{Recorded, frames, refused, put, entries, framesIn}
+use Rattle.recording.proofs.Walking.{entryAt, ended, not-known, body-cut, not-allowed, next}
+
+-- what stands at a place where the entries begin with a frame
+pub record Entry (v : Vocoder) (ok : Frame → Bool) (p : List ℕ) (at : ℕ) (f : Frame) (fs : List Frame) : Type 0 where
+  pub here : at < length p
+  pub type : f .type ≡ typeOf (getD p at 0)
+  pub known : known v (typeOf (getD p at 0)) ≡ true
+  pub body : f .body ≡ take (size v (typeOf (getD p at 0))) (drop (at + 1) p)
+  pub octets : length (f .body) ≡ size v (typeOf (getD p at 0))
+  pub inside : at + 1 + size v (typeOf (getD p at 0)) ≤ length p
+  pub allowed : ok f ≡ true
+  pub rest : entries v ok 0 (drop (at + 1 + size v (typeOf (getD p at 0))) p) ≡ frames fs
+
+unput : (f g : Frame) (fs : List Frame) (w : Recorded) → put g w ≡ frames (f ∷ fs) → (f ≡ g) × (w ≡ frames fs)
+unput f g fs (frames gs) e = (cc, cc)
+unput f g fs (refused r) e = apart (cc)
+
+pub entry : (v : Vocoder) (ok : Frame → Bool) (p : List ℕ) (at : ℕ) (f : Frame) (fs : List Frame) → entries v ok 0 (drop at p) ≡ frames (f ∷ fs) → Entry v ok p at f fs
+entry v ok p at f fs e = by-place (ltb at (length p)) refl
+  where
+    by-rule : at < length p → (r : Row) → rowOf v (typeOf (getD p at 0)) ≡ Found r → r .octets ≤ length p - (at + 1) → (b : Bool) → ok (entryAt p at (r .octets)) ≡ b → Entry v ok p at f fs
+    by-rule h r k s false g = let q = not-allowed v ok p at h r k s g in apart (cc)
+    by-rule h r k s true g =
+        let u = unput f (entryAt p at (r .octets)) fs (entries v ok 0 (drop (at + 1 + r .octets) p)) (sym (next v ok p at h r k s g) ∙ e) in
+        let z = found-size v (typeOf (getD p at 0)) r k in
+        let b : f .body ≡ take (size v (typeOf (getD p at 0))) (drop (at + 1) p) =
+        ap (λ (x : Frame). x .body) (u .0) ∙ ap (λ (i : ℕ). take i (drop (at + 1) p)) (add-sub-cancel-left (at + 1) (r .octets) ∙ sym z) in
+        record {
+          here = h;
+          type = ap (λ (x : Frame). x .type) (u .0);
+          known = found-known v (typeOf (getD p at 0)) r k;
+          body = b;
+          octets = ap length b ∙ length-take-le (size v (typeOf (getD p at 0))) (drop (at + 1) p) (omega (arith, length-drop (at + 1) p));
+          inside = omega arith;
+          allowed = ap ok (u .0) ∙ g;
+          rest = rw z (u .1);
+        }
+
+    by-size : at < length p → (r : Row) → rowOf v (typeOf (getD p at 0)) ≡ Found r → (b : Bool) → ltb (length p - (at + 1)) (r .octets) ≡ b → Entry v ok p at f fs
+    by-size h r k true q = let x = body-cut v ok p at h r k (ltb-true _ _ q) in apart (cc)
+    by-size h r k false q = by-rule h r k (ltb-false _ _ q) (ok (entryAt p at (r .octets))) refl
+
+    by-type : at < length p → (l : Lookup) → rowOf v (typeOf (getD p at 0)) ≡ l → Entry v ok p at f fs
+    by-type h (Found r) k = by-size h r k (ltb (length p - (at + 1)) (r .octets)) refl
+    by-type h Missing k = let x = not-known v ok p at h k in apart (cc)
+
+    by-place : (b : Bool) → ltb at (length p) ≡ b → Entry v ok p at f fs
+    by-place true q = by-type (ltb-true _ _ q) (rowOf v (typeOf (getD p at 0))) refl
+    by-place false q = let x = ended v ok p at (ltb-false _ _ q) in apart (cc)
+
+-- the frames of entries lie in them
+pub entries-laid : (v : Vocoder) (ok : Frame → Bool) (p : List ℕ) (head : ℕ) (fs : List Frame) → entries v ok 0 (drop head p) ≡ frames fs → Laid p head 1 fs
+entries-laid v ok p head [] e = tt
+entries-laid v ok p head (f ∷ fs) e =
+    let x = entry v ok p head f fs e in (
+      rw (x .octets) (sym (x .body)),
+      omega (arith, x .octets, x .inside),
+      rw (x .octets) (entries-laid v ok p (head + 1 + size v (typeOf (getD p head 0))) fs (x .rest)),
+    )
+
+-- past the entries of the first i frames stand those of the others
+walks : (v : Vocoder) (ok : Frame → Bool) (p : List ℕ) (h : ℕ) (fs : List Frame) (i : ℕ) → i ≤ length fs → entries v ok 0 (drop h p) ≡ frames fs → entries v ok 0 (drop (h + taken 1 (take i fs)) p) ≡ frames (drop i fs)
+walks v ok p h fs zero q e = rw add-zero e
+walks v ok p h [] (suc i) q e = absurd (omega arith)
+walks v ok p h (f ∷ fs) (suc i) q e =
+    let x = entry v ok p h f fs e in
+    let r = walks v ok p (h + 1 + size v (typeOf (getD p h 0))) fs i (le-of-suc-le-suc q) (x .rest) in
+    let n : h + (1 + length (f .body) + taken 1 (take i fs)) ≡ h + 1 + size v (typeOf (getD p h 0)) + taken 1 (take i fs) = omega (arith, x .octets) in
+    ap (λ (j : ℕ). entries v ok 0 (drop j p)) n ∙ r
+
+pub entry-of : (v : Vocoder) (ok : Frame → Bool) (p : List ℕ) (h : ℕ) (fs : List Frame) (k : ℕ) → entries v ok 0 (drop h p) ≡ frames fs → k < length fs → Entry v ok p (h + taken 1 (take k fs)) (frameAt fs k) (drop (suc k) fs)
+entry-of v ok p h fs k e q =
+    entry v ok p (h + taken 1 (take k fs)) (frameAt fs k) (drop (suc k) fs) (walks v ok p h fs k (omega arith) e ∙ ap frames (drop-cons fs k noFrame q))
+
+pub taken-suc : (gap : ℕ) (fs : List Frame) (k : ℕ) → k < length fs → taken gap (take (suc k) fs) ≡ taken gap (take k fs) + gap + length (frameAt fs k .body)
+taken-suc gap [] k h = absurd (omega arith)
+taken-suc gap (f ∷ fs) zero h = omega arith
+taken-suc gap (f ∷ fs) (suc k) h = let i = taken-suc gap fs k (le-of-suc-le-suc h) in omega arith
+
+pub are-frames : (w : Recorded) (k : ℕ) → k < length (framesIn w) → w ≡ frames (framesIn w)
+unfolding framesIn
+are-frames (frames fs) k h = refl
+are-frames (refused r) k h = absurd (omega arith)

@@ -1,0 +1,3 @@
+pub mod Entries
+pub mod Recording
+pub mod Shown

@@ -1,0 +1,104 @@
+/* The landing voice library: EVRC speech in RTP payloads, for a recorder written in C or C++.
+ *
+ * Every call returns a uint8_t: LV_OK (0), or the number of a refusal (enum lv_answer). Each call is total: whatever the
+ * numbers and octets are, it answers or refuses. A refusal changes no out-parameter and no octet of a lent buffer, and
+ * octets past an answer's end stay unchanged. Every call's promise is proved for all inputs; docs/PROMISES.md has them.
+ *
+ * What C itself asks of a caller: no pointer is null, also where the length beside it is 0; a buffer has the octets that
+ * its length says; what a call may write to (a pointer with no const) overlaps nothing else that the same call is given.
+ * Calls keep nothing between them and may be made from several threads on different memory.
+ *
+ * Link with -llanding (target/staticlib/liblanding.a); nothing else is needed.
+ */
+#ifndef LANDING_VOICE_H
+#define LANDING_VOICE_H
+
+#include <stddef.h>
+#include <stdint.h>
+
+#ifdef __cplusplus
+extern "C" {
+#endif
+
+/* The answers by number. */
+enum lv_answer {
+    LV_OK = 0,
+    LV_NO_OCTET = 1,            /* an interleaved payload has no octet */
+    LV_INDEX_PAST_LENGTH = 2,   /* N above L */
+    LV_LENGTH_PAST_MAXIMUM = 3, /* L above the agreed maximum */
+    LV_TABLE_CUT = 4,           /* the table of contents runs past the payload */
+    LV_RESERVED_TYPE = 5,       /* a reserved frame type */
+    LV_TOO_MANY_FRAMES = 6,     /* an entry past the agreed maximum B; in writing, B 0 or above it */
+    LV_BODIES_CUT = 7,          /* the bodies need more octets than are there */
+    LV_OCTETS_LEFT = 8,         /* octets are left after the last body */
+    LV_HEADER_FREE_LENGTH = 9,  /* a header-free payload's length is not 2, 10 or 22 */
+    LV_ANOTHER_SOURCE = 10,     /* the packet is another source's */
+    LV_CONTRADICTS_GROUP = 11,  /* the packet contradicts the group held */
+    LV_LATER_GROUP = 12,        /* the packet is a later group's: pour, then offer it again */
+    LV_EARLIER_GROUP = 13,      /* the packet is an earlier group's */
+    LV_PACKET_DIFFERS = 14,     /* a packet that is held already has other frames */
+    LV_NO_ROOM = 15,            /* the output is shorter than the answer needs */
+    LV_TOO_FAR_AHEAD = 16,      /* more than 100 packets are missing before it */
+    LV_NOT_SENDABLE = 17,       /* a frame, or a number of frames, that is not to be sent */
+    LV_WRONG_OPENING = 18,      /* a recording's opening octets are missing or wrong */
+    LV_BODY_CUT = 19,           /* a recording entry's body is cut */
+    LV_NOT_SAME_GROUP = 20,     /* two holdings are not of the same group */
+    LV_NOT_APPLICABLE = 21      /* wrong form, maxima or D out of range, no such frame, nothing open or held */
+};
+
+/* The agreed form of a session: the calls' `form`. Any other number answers LV_NOT_APPLICABLE. */
+enum lv_form {
+    LV_HEADER_FREE = 0, /* one body and nothing else; the two maxima are ignored */
+    LV_INTERLEAVED = 1  /* type 1 payloads, L at most max_l (0 to 7), B at most max_b (1 to 10) */
+};
+
+/* The maxima that are agreed where none are named. */
+enum lv_default {
+    LV_DEFAULT_MAX_L = 5,
+    LV_DEFAULT_MAX_B = 10
+};
+
+/* The EVRC frame types, and the octets of the longest body. */
+enum lv_type {
+    LV_BLANK = 0,   /* no octets */
+    LV_RATE_8TH = 1, /* 2 octets */
+    LV_RATE_HALF = 3, /* 10 octets */
+    LV_RATE_1 = 4,  /* 22 octets; when sent, the low 5 bits of the last one are zero */
+    LV_ERASURE = 14 /* no octets */
+};
+
+enum {
+    LV_BODY_MAX = 22,
+    LV_OPENING_OCTETS = 7 /* a recording opens with 23 21 45 56 52 43 0A: "#!EVRC" and a newline */
+};
+
+/* Reads a payload in the agreed form. On LV_OK: *l and *n are the interleave length and index, *b the number of frames, and
+ * *d the last entry's D bit. A header-free payload is read as l 0, n 0, b 1, d 0.
+ * Refuses, in this order: 21; 1, 2, 3; for each entry 4, 6, 5; then 7, 8. Header-free: 9. */
+uint8_t lv_payload_read(uint8_t form, uint8_t max_l, uint8_t max_b, const uint8_t *payload, size_t len, uint8_t *l,
+                        uint8_t *n, uint8_t *b, uint8_t *d);
+
+/* Finds frame k of a payload, k from 0. On LV_OK: *type is its type, and its body is the *size octets at payload + *start;
+ * an empty body has size 0 and starts where it would lie. Spare bits of a body are as they came.
+ * Refuses as lv_payload_read does; a payload that can be read, with no frame k, answers 21. */
+uint8_t lv_payload_frame(uint8_t form, uint8_t max_l, uint8_t max_b, const uint8_t *payload, size_t len, size_t k,
+                         uint8_t *type, size_t *start, size_t *size);
+
+/* Reads a recording: the opening octets, then entries of one octet and a body. On LV_OK: *count is the number of its frames.
+ * Refuses, in this order: 18; entry by entry 5, 19. */
+uint8_t lv_recording_read(const uint8_t *recording, size_t len, size_t *count);
+
+/* Finds frame k of a recording, k from 0. On LV_OK: *type is its type, and its body is the *size octets at recording + *start.
+ * Refuses as lv_recording_read does; a recording that can be read, with no frame k, answers 21. */
+uint8_t lv_recording_frame(const uint8_t *recording, size_t len, size_t k, uint8_t *type, size_t *start, size_t *size);
+
+/* Writes a recording: the opening octets, then the entries with their F and D bits cleared. On LV_OK: *written is the number
+ * of octets written to out, LV_OPENING_OCTETS + entries_len.
+ * Refuses, in this order: entry by entry 5, 19; then 15. */
+uint8_t lv_recording_write(const uint8_t *entries, size_t entries_len, uint8_t *out, size_t out_len, size_t *written);
+
+#ifdef __cplusplus
+}
+#endif
+
+#endif

@@ -165,6 +165,15 @@ static uint8_t make_call(const struct request *r)
         takes(r, 4, 4);
         return lv_payload_frame(u8(r, 0), u8(r, 1), u8(r, 2), lent(r, 0), len(r, 0), size(r, 3), out_u8(r, 1),
                                 out_size(r, 2), out_size(r, 3));
+    case 3:
+        takes(r, 0, 2);
+        return lv_recording_read(lent(r, 0), len(r, 0), out_size(r, 1));
+    case 4:
+        takes(r, 1, 4);
+        return lv_recording_frame(lent(r, 0), len(r, 0), size(r, 0), out_u8(r, 1), out_size(r, 2), out_size(r, 3));
+    case 5:
+        takes(r, 0, 3);
+        return lv_recording_write(lent(r, 0), len(r, 0), lent(r, 1), len(r, 1), out_size(r, 2));
     }
     fail("malformed request: no such call");
     return 0;

@@ -84,6 +84,20 @@ uint8_t lv_payload_read(uint8_t form, uint8_t max_l, uint8_t max_b, const uint8_
 uint8_t lv_payload_frame(uint8_t form, uint8_t max_l, uint8_t max_b, const uint8_t *payload, size_t len, size_t k,
                          uint8_t *type, size_t *start, size_t *size);
 
+/* Writes packet n of an interleave group. The entries are the group's (l + 1) x b frames in time order, as recording entries,
+ * whose F and D bits are ignored; the packet holds frames k x (l + 1) + n, k from 0 to b - 1, with d in every table entry.
+ * On LV_OK: *written is the number of octets written to out.
+ * Refuses, in this order: 21 (form not LV_INTERLEAVED, maxima out of range, d above 1), 2, 3, 6; for each entry of the whole
+ * input 5, 19, 17; then 17 if there are not (l + 1) x b entries; then 15. */
+uint8_t lv_packet_write(uint8_t form, uint8_t max_l, uint8_t max_b, uint8_t l, uint8_t n, uint8_t b, uint8_t d,
+                        const uint8_t *entries, size_t entries_len, uint8_t *out, size_t out_len, size_t *written);
+
+/* Writes a header-free packet: the body of the one entry, and nothing else.
+ * Refuses, in this order: 21 (form not LV_HEADER_FREE); for each entry 5, 19, 17, a blank too; then 17 if there is not exactly
+ * one entry; then 15. */
+uint8_t lv_packet_write_header_free(uint8_t form, uint8_t max_l, uint8_t max_b, const uint8_t *entries,
+                                    size_t entries_len, uint8_t *out, size_t out_len, size_t *written);
+
 /* Reads a recording: the opening octets, then entries of one octet and a body. On LV_OK: *count is the number of its frames.
  * Refuses, in this order: 18; entry by entry 5, 19. */
 uint8_t lv_recording_read(const uint8_t *recording, size_t len, size_t *count);

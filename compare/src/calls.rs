@@ -5,12 +5,18 @@
 //! puts fences of random octets around every buffer, so that a response shows
 //! what was written and what was left alone.
 
+use std::fmt::{self, Display, Formatter};
+
 use crate::inputs::Rng;
 use crate::library::{Buffer, Request, Response};
+use crate::report::Hex;
 
 /// The numbers of the calls in `serve.c`.
 const PAYLOAD_READ: u8 = 1;
 const PAYLOAD_FRAME: u8 = 2;
+const RECORDING_READ: u8 = 3;
+const RECORDING_FRAME: u8 = 4;
+const RECORDING_WRITE: u8 = 5;
 
 /// The most octets of a fence.
 const FENCE: usize = 16;
@@ -35,7 +41,8 @@ pub struct ReadOut {
     pub d: u8,
 }
 
-/// The out-parameters of `lv_payload_frame`; `kind` is the frame's type.
+/// The out-parameters of `lv_payload_frame` and `lv_recording_frame`; `kind`
+/// is the frame's type.
 #[derive(Clone, Copy, Debug, PartialEq, Eq)]
 pub struct FrameOut {
     pub kind: u8,
@@ -43,9 +50,23 @@ pub struct FrameOut {
     pub size: usize,
 }
 
-/// What a call did: its answer, the out-parameters after it, and whether
-/// everything it must not write to was kept. That is the octets lent for
-/// reading, every fence, and after a refusal the out-parameters too.
+/// The out-parameter of `lv_recording_read`.
+#[derive(Clone, Copy, Debug, PartialEq, Eq)]
+pub struct CountOut {
+    pub count: usize,
+}
+
+/// What a writer is lent: all octets of its output, and its out-parameter.
+#[derive(Clone, Debug, PartialEq, Eq)]
+pub struct WriteOut {
+    pub octets: Vec<u8>,
+    pub written: usize,
+}
+
+/// What a call did: its answer, what it was lent for writing as that is after
+/// it, and whether everything it must not write to was kept. That is the octets
+/// lent for reading, every fence, and after a refusal what was lent for writing
+/// too.
 #[derive(Clone, Copy, Debug, PartialEq, Eq)]
 pub struct Told<T> {
     pub answer: u8,
@@ -78,8 +99,7 @@ pub fn payload_read(agreed: Agreed, payload: &[u8], before: ReadOut, rng: &mut R
 /// What `lv_payload_read` did.
 pub fn payload_read_told(request: &Request, response: &Response) -> Told<ReadOut> {
     let made = Made { request, response };
-    let out = ReadOut { l: made.u8(1), n: made.u8(2), b: made.u8(3), d: made.u8(4) };
-    Told { answer: response.answer, out, kept: made.kept(&[0, 1, 1, 1, 1]) }
+    made.told(ReadOut { l: made.u8(1), n: made.u8(2), b: made.u8(3), d: made.u8(4) })
 }
 
 /// Asks for `lv_payload_frame`, with these out-parameters before the call.
@@ -94,20 +114,104 @@ pub fn payload_frame(
     Request {
         call: PAYLOAD_FRAME,
         scalars: vec![form, max_l, max_b, k as u64],
-        buffers: vec![
-            lent(payload, rng),
-            out(&[before.kind], rng),
-            out_size(before.start, rng),
-            out_size(before.size, rng),
-        ],
+        buffers: frame_buffers(payload, before, rng),
     }
 }
 
-/// What `lv_payload_frame` did.
-pub fn payload_frame_told(request: &Request, response: &Response) -> Told<FrameOut> {
+/// What `lv_payload_frame` or `lv_recording_frame` did.
+pub fn frame_told(request: &Request, response: &Response) -> Told<FrameOut> {
     let made = Made { request, response };
-    let out = FrameOut { kind: made.u8(1), start: made.size(2), size: made.size(3) };
-    Told { answer: response.answer, out, kept: made.kept(&[0, 1, 8, 8]) }
+    made.told(FrameOut { kind: made.u8(1), start: made.size(2), size: made.size(3) })
+}
+
+/// Asks for `lv_recording_read`, with this out-parameter before the call.
+pub fn recording_read(recording: &[u8], before: CountOut, rng: &mut Rng) -> Request {
+    Request {
+        call: RECORDING_READ,
+        scalars: Vec::new(),
+        buffers: vec![lent(recording, rng), out_size(before.count, rng)],
+    }
+}
+
+/// What `lv_recording_read` did.
+pub fn recording_read_told(request: &Request, response: &Response) -> Told<CountOut> {
+    let made = Made { request, response };
+    made.told(CountOut { count: made.size(1) })
+}
+
+/// Asks for `lv_recording_frame`, with these out-parameters before the call.
+pub fn recording_frame(recording: &[u8], k: usize, before: FrameOut, rng: &mut Rng) -> Request {
+    Request {
+        call: RECORDING_FRAME,
+        scalars: vec![k as u64],
+        buffers: frame_buffers(recording, before, rng),
+    }
+}
+
+/// Asks for `lv_recording_write`, with this output before the call.
+pub fn recording_write(entries: &[u8], before: &WriteOut, rng: &mut Rng) -> Request {
+    Request {
+        call: RECORDING_WRITE,
+        scalars: Vec::new(),
+        buffers: write_buffers(entries, before, rng),
+    }
+}
+
+/// What a writer did.
+pub fn write_told(request: &Request, response: &Response) -> Told<WriteOut> {
+    let made = Made { request, response };
+    made.told(WriteOut { octets: made.octets(1).to_vec(), written: made.size(2) })
+}
+
+/// The buffers of a call that finds a frame.
+fn frame_buffers(octets: &[u8], before: FrameOut, rng: &mut Rng) -> Vec<Buffer> {
+    vec![
+        lent(octets, rng),
+        out(&[before.kind], rng),
+        out_size(before.start, rng),
+        out_size(before.size, rng),
+    ]
+}
+
+/// The buffers of a call that writes.
+fn write_buffers(entries: &[u8], before: &WriteOut, rng: &mut Rng) -> Vec<Buffer> {
+    vec![lent(entries, rng), out(&before.octets, rng), out_size(before.written, rng)]
+}
+
+// Out-parameters that no answer has. An output has any octets.
+
+impl ReadOut {
+    pub fn no_answer(rng: &mut Rng) -> ReadOut {
+        let mut octet = || no_octet(rng);
+        ReadOut { l: octet(), n: octet(), b: octet(), d: octet() }
+    }
+}
+
+impl FrameOut {
+    pub fn no_answer(rng: &mut Rng) -> FrameOut {
+        FrameOut { kind: no_octet(rng), start: no_size(rng), size: no_size(rng) }
+    }
+}
+
+impl CountOut {
+    pub fn no_answer(rng: &mut Rng) -> CountOut {
+        CountOut { count: no_size(rng) }
+    }
+}
+
+impl WriteOut {
+    /// An output of so many octets.
+    pub fn no_answer(room: usize, rng: &mut Rng) -> WriteOut {
+        WriteOut { octets: rng.octets(room), written: no_size(rng) }
+    }
+}
+
+fn no_octet(rng: &mut Rng) -> u8 {
+    rng.octet() | 0x80
+}
+
+fn no_size(rng: &mut Rng) -> usize {
+    rng.next() as usize | 1 << (usize::BITS - 1)
 }
 
 impl Agreed {
@@ -159,16 +263,21 @@ impl Made<'_> {
         usize::from_le_bytes(self.octets(place).try_into().expect("a size_t has 8 octets"))
     }
 
-    /// Whether every octet is as it was but for those the answer may change:
-    /// none on a refusal, else the first octets lent in each buffer, as many
-    /// as `open` says. "Each refusal [...] changes nothing lent. Output octets
-    /// past an answer's end stay unchanged" (document 01, "Answers by number").
-    fn kept(&self, open: &[usize]) -> bool {
-        assert_eq!(open.len(), self.request.buffers.len());
+    /// What the call did, with what it was lent for writing as that is now.
+    fn told<T>(&self, out: T) -> Told<T> {
+        Told { answer: self.response.answer, out, kept: self.kept() }
+    }
+
+    /// Whether every octet is as it was but for those that may change: none on
+    /// a refusal, else what was lent for writing, which is all but the first
+    /// buffer. "Each refusal [...] changes nothing lent" (document 01, "Answers
+    /// by number").
+    fn kept(&self) -> bool {
         let sides = self.request.buffers.iter().zip(&self.response.images);
-        sides.zip(open).all(|((buffer, image), &open)| {
-            let open = if self.response.answer == 0 { open } else { 0 };
-            let (start, end) = (buffer.offset, buffer.offset + open);
+        sides.enumerate().all(|(place, (buffer, image))| {
+            let may_change = self.response.answer == 0 && place > 0;
+            let (start, len) = (buffer.offset, if may_change { buffer.len } else { 0 });
+            let end = start + len;
             image[..start] == buffer.image[..start] && image[end..] == buffer.image[end..]
         })
     }
@@ -178,33 +287,78 @@ impl Made<'_> {
 /// alone, and none is seen where none was made.
 pub fn changes_are_noticed(rng: &mut Rng) -> bool {
     let agreed = Agreed { form: 1, max_l: 5, max_b: 10 };
-    let read = ReadOut { l: 1, n: 2, b: 3, d: 4 };
-    let frame = FrameOut { kind: 1, start: 2, size: 3 };
+    let octets = [5, 6, 7];
     (0..20).all(|_| {
-        let read = payload_read(agreed, &[5, 6, 7], read, rng);
-        let frame = payload_frame(agreed, &[5, 6, 7], 0, frame, rng);
-        noticed(&read, |response| payload_read_told(&read, response).kept)
-            && noticed(&frame, |response| payload_frame_told(&frame, response).kept)
+        let (read, frame) = (ReadOut::no_answer(rng), FrameOut::no_answer(rng));
+        let (count, output) = (CountOut::no_answer(rng), WriteOut::no_answer(4, rng));
+        let requests = [
+            payload_read(agreed, &octets, read, rng),
+            payload_frame(agreed, &octets, 0, frame, rng),
+            recording_read(&octets, count, rng),
+            recording_frame(&octets, 0, frame, rng),
+            recording_write(&octets, &output, rng),
+        ];
+        requests.iter().all(noticed)
     })
 }
 
-/// The same for a call whose first buffer is lent for reading and whose others
-/// are out-parameters: these alone may change, and only if the call accepts.
-fn noticed(request: &Request, kept: impl Fn(&Response) -> bool) -> bool {
+/// The same for one call: what is lent for writing alone may change, and only
+/// if the call accepts.
+fn noticed(request: &Request) -> bool {
     let images = || request.buffers.iter().map(|buffer| buffer.image.clone()).collect();
     [0, 7].into_iter().all(|answer| {
         let mut response = Response { answer, images: images() };
         let mut changed_is_kept = |place: usize, at: usize| {
             response.images[place][at] ^= 1;
-            let told = kept(&response);
+            let kept = Made { request, response: &response }.kept();
             response.images[place][at] ^= 1;
-            told
+            kept
         };
         let all_seen = request.buffers.iter().enumerate().all(|(place, buffer)| {
             let lent = buffer.offset..buffer.offset + buffer.len;
             let may = |at| answer == 0 && place > 0 && lent.contains(&at);
             (0..buffer.image.len()).all(|at| changed_is_kept(place, at) == may(at))
         });
-        all_seen && kept(&response)
+        all_seen && Made { request, response: &response }.kept()
     })
+}
+
+impl Display for Agreed {
+    fn fmt(&self, f: &mut Formatter) -> fmt::Result {
+        write!(f, "form {}, maxima {} and {}", self.form, self.max_l, self.max_b)
+    }
+}
+
+impl Display for ReadOut {
+    fn fmt(&self, f: &mut Formatter) -> fmt::Result {
+        write!(f, "L {} N {} B {} D {}", self.l, self.n, self.b, self.d)
+    }
+}
+
+impl Display for FrameOut {
+    fn fmt(&self, f: &mut Formatter) -> fmt::Result {
+        write!(f, "type {} start {} size {}", self.kind, self.start, self.size)
+    }
+}
+
+impl Display for CountOut {
+    fn fmt(&self, f: &mut Formatter) -> fmt::Result {
+        write!(f, "count {}", self.count)
+    }
+}
+
+impl Display for WriteOut {
+    fn fmt(&self, f: &mut Formatter) -> fmt::Result {
+        write!(f, "written {} octets {}", self.written, Hex(&self.octets))
+    }
+}
+
+impl<T: Display> Display for Told<T> {
+    fn fmt(&self, f: &mut Formatter) -> fmt::Result {
+        write!(f, "{}; out: {}", self.answer, self.out)?;
+        match self.kept {
+            true => Ok(()),
+            false => write!(f, "; wrote where it must not"),
+        }
+    }
 }

@@ -74,12 +74,16 @@ impl Library {
         Ok(Library { server, requests, responses })
     }
 
-    /// Makes the calls, one after the other, and gives a response for each.
-    pub fn answer(&mut self, requests: &[&Request]) -> Result<Vec<Response>, Fault> {
+    /// Asks for calls, to be made one after the other, and does not wait.
+    pub fn ask(&mut self, requests: &[&Request]) {
         let mut octets = Vec::new();
         requests.iter().for_each(|request| request.encode(&mut octets));
         // If no one takes them the server has ended, and no response comes.
         let _ = self.requests.send(octets);
+    }
+
+    /// The responses to requests: those asked first of all that have none yet.
+    pub fn answers(&mut self, requests: &[&Request]) -> Result<Vec<Response>, Fault> {
         let mut responses = Vec::with_capacity(requests.len());
         for request in requests {
             match Response::read(&mut self.responses, request) {
@@ -179,10 +183,15 @@ fn ending(status: Option<ExitStatus>) -> String {
 }
 
 impl Request {
+    /// The number of octets that follow their number.
+    pub fn octets(&self) -> usize {
+        let images: usize = self.buffers.iter().map(|buffer| 12 + buffer.image.len()).sum();
+        3 + 8 * self.scalars.len() + images
+    }
+
     /// Adds the request's octets.
     fn encode(&self, octets: &mut Vec<u8>) {
-        let images: usize = self.buffers.iter().map(|buffer| 12 + buffer.image.len()).sum();
-        put_u32(octets, 3 + 8 * self.scalars.len() + images);
+        put_u32(octets, self.octets());
         octets.extend([self.call, count(self.scalars.len())]);
         octets.extend(self.scalars.iter().flat_map(|scalar| scalar.to_le_bytes()));
         octets.push(count(self.buffers.len()));

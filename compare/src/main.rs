@@ -2,8 +2,10 @@
 //! document 01.
 //!
 //! `paper` says what ought to come out, `calls` what the library does, and
-//! `inputs` what both are given. Each subject has a module that runs the
-//! comparison: so far `payloads`, the reading of payloads.
+//! `inputs` what both are given. `trial` tries one case on all sides, and
+//! `comparison` many. Each subject has a module that runs its comparison:
+//! `payloads`, the reading of payloads, and `recordings`, their reading and
+//! writing.
 //!
 //! The library is called by another program, `serve.c`. Compile that for the
 //! library's machine, with `include/` to find the header and `liblanding.a`
@@ -18,11 +20,16 @@
 //! differs, else 1, or 2 for other words than these.
 
 mod calls;
+mod comparison;
 mod inputs;
 mod library;
 mod paper;
 mod payloads;
+mod reached;
+mod recordings;
 mod report;
+mod trial;
+mod trips;
 
 use std::env;
 use std::ffi::OsString;
@@ -72,5 +79,6 @@ fn compare(
     }
     let mut library = Library::start(command, words)?;
     payloads::compare(seed, &mut library, report)?;
+    recordings::compare(seed, &mut library, report)?;
     library.end()
 }

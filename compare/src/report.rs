@@ -60,17 +60,25 @@ impl Report {
     }
 }
 
-/// Octets as document 01 writes them.
+/// Octets as document 01 writes them, the first of many.
 pub struct Hex<'a>(pub &'a [u8]);
+
+/// How many octets are told at most.
+const OCTETS_TOLD: usize = 400;
 
 impl Display for Hex<'_> {
     fn fmt(&self, f: &mut Formatter) -> fmt::Result {
-        match self.0 {
+        let (told, rest) = self.0.split_at(self.0.len().min(OCTETS_TOLD));
+        match told {
             [] => write!(f, "(none)"),
-            [first, rest @ ..] => {
+            [first, more @ ..] => {
                 write!(f, "{first:02X}")?;
-                rest.iter().try_for_each(|octet| write!(f, " {octet:02X}"))
+                more.iter().try_for_each(|octet| write!(f, " {octet:02X}"))
             }
+        }?;
+        match rest {
+            [] => Ok(()),
+            _ => write!(f, " and {} more", rest.len()),
         }
     }
 }

@@ -1,6 +1,50 @@
 //! Inputs for the comparison, made from a seed: the same seed, the same inputs.
 
+pub mod frames;
+mod octets;
 pub mod payloads;
+pub mod recordings;
+
+/// Kinds of inputs: the name of each, and what makes one.
+type Kinds<T> = [(&'static str, fn(&mut Rng) -> T)];
+
+/// An input of the kind that a number falls to, and the kind's name.
+fn of_kind<T>(kinds: &Kinds<T>, number: usize, rng: &mut Rng) -> (&'static str, T) {
+    let (name, make) = kinds[number % kinds.len()];
+    (name, make(rng))
+}
+
+/// Up to how many frames all are asked for.
+const FEW: usize = 12;
+
+/// Frame numbers to ask for: those below a count, or some of them if there are
+/// many, at it and past it, and huge ones, among them two that are below the
+/// count in their low bits.
+pub fn asks(rng: &mut Rng, count: usize) -> Vec<usize> {
+    let near = rng.between(0, count.max(1) - 1);
+    let past = rng.between(count + 2, count + 300);
+    let bit = rng.pick(&[8, 16, 31, 63]);
+    let huge = |bit: u32| 1 << bit | near;
+    let below: Vec<usize> = match count {
+        0..=FEW => (0..count).collect(),
+        _ => vec![0, 1, near, count - 2, count - 1],
+    };
+    [&below[..], &[count, count + 1, past, huge(bit), huge(32), usize::MAX]].concat()
+}
+
+/// Octets of room for an answer of so many: none, some, all but one, just as
+/// many, one more, and more.
+pub fn rooms(rng: &mut Rng, needed: usize) -> Vec<usize> {
+    let some = rng.between(0, needed);
+    let more = needed + rng.between(2, 40);
+    vec![0, some, needed.saturating_sub(1), needed, needed + 1, more]
+}
+
+/// Octets as document 01 writes them.
+pub fn hex(text: &str) -> Vec<u8> {
+    let octet = |text| u8::from_str_radix(text, 16).expect("octets are written in hex");
+    text.split_whitespace().map(octet).collect()
+}
 
 /// A small generator of pseudo-random numbers (splitmix64).
 pub struct Rng(u64);

@@ -4,46 +4,30 @@
 //! Where a payload is built to mean something, its case says what; this is
 //! worked out while building, not by reading.
 
-use super::Rng;
+use super::frames::{reserved_entry, size_of, TYPES};
+use super::octets::{damage, likely, neighbours_of};
+use super::{of_kind, Kinds, Rng};
 use crate::calls::{Agreed, FrameOut, ReadOut};
+use crate::trial::{Contents, ReadCase};
 
 /// A payload to read under an agreed form.
-pub struct Case {
-    pub name: &'static str,
+pub struct Payload {
     pub agreed: Agreed,
-    pub payload: Vec<u8>,
-    /// What it was built to mean; `None` if that is left open.
-    pub meant: Option<Meaning>,
+    pub octets: Vec<u8>,
 }
 
-/// An accepted payload's contents, or the refusal.
-pub type Meaning = Result<Contents, u8>;
+pub type Case = ReadCase<Payload>;
 
-#[derive(Clone, Debug)]
-pub struct Contents {
-    pub read: ReadOut,
-    pub frames: Vec<FrameOut>,
+/// One frame with L, N and D at 0.
+fn alone(kind: u8, start: usize, size: usize) -> Contents<ReadOut> {
+    Contents::listed(ReadOut { l: 0, n: 0, b: 1, d: 0 }, &[(kind, start, size)])
 }
-
-impl Contents {
-    /// One frame with L, N and D at 0.
-    fn alone(kind: u8, start: usize, size: usize) -> Contents {
-        let read = ReadOut { l: 0, n: 0, b: 1, d: 0 };
-        Contents { read, frames: vec![FrameOut { kind, start, size }] }
-    }
-}
-
-/// Frame types and body sizes (document 01, "Frames").
-const TYPES: [(u8, usize); 5] = [(0, 0), (1, 2), (3, 10), (4, 22), (14, 0)];
 
 /// The longest of the long payloads.
 const LONG: usize = 4000;
 
-/// Makes a case of one kind.
-type Make = fn(&mut Rng) -> Case;
-
 /// The kinds of seeded payloads; case `i` is of kind `i` modulo their number.
-const KINDS: &[(&str, Make)] = &[
+const KINDS: &Kinds<Case> = &[
     ("good interleaved", good_interleaved),
     ("good interleaved", good_interleaved),
     ("good header-free", good_header_free),
@@ -71,18 +55,8 @@ const KINDS: &[(&str, Make)] = &[
 
 /// The seeded case with this number.
 pub fn seeded(rng: &mut Rng, number: usize) -> Case {
-    let (name, make) = KINDS[number % KINDS.len()];
-    Case { name, ..make(rng) }
-}
-
-/// Frame numbers to ask for: all below a count, at it and past it, and huge
-/// ones, among them two that are below the count in their low bits.
-pub fn asks(rng: &mut Rng, count: usize) -> Vec<usize> {
-    let near = rng.between(0, count.max(1) - 1);
-    let past = rng.between(count + 2, count + 300);
-    let bit = rng.pick(&[8, 16, 31, 63]);
-    let huge = |bit: u32| usize::try_from(1u64 << bit).unwrap_or(usize::MAX) | near;
-    (0..=count + 1).chain([past, huge(bit), huge(32), usize::MAX]).collect()
+    let (name, case) = of_kind(KINDS, number, rng);
+    Case { name, ..case }
 }
 
 /// A type 1 payload in its three parts.
@@ -105,7 +79,7 @@ impl Draft {
 
     /// A payload with the bodies its table asks for.
     fn with_bodies(rng: &mut Rng, first: u8, table: Vec<u8>) -> Draft {
-        let size = sizes(&table).iter().sum();
+        let size = table.iter().map(|&entry| size_of(entry)).sum();
         Draft { first, table, bodies: rng.octets(size) }
     }
 
@@ -114,10 +88,11 @@ impl Draft {
     }
 
     /// What it means if it is good.
-    fn contents(&self) -> Contents {
+    fn contents(&self) -> Contents<ReadOut> {
         let mut start = 1 + self.table.len();
         let mut frames = Vec::new();
-        for (entry, size) in self.table.iter().zip(sizes(&self.table)) {
+        for &entry in &self.table {
+            let size = size_of(entry);
             frames.push(FrameOut { kind: entry & 0x3F, start, size });
             start += size;
         }
@@ -129,12 +104,6 @@ impl Draft {
         };
         Contents { read, frames }
     }
-}
-
-/// The body sizes of good entries.
-fn sizes(table: &[u8]) -> Vec<usize> {
-    let size = |entry: &u8| TYPES.iter().find(|row| row.0 == entry & 0x3F).map_or(0, |row| row.1);
-    table.iter().map(size).collect()
 }
 
 /// Octet 0 with L and N within the maxima and any RR.
@@ -153,13 +122,6 @@ fn more_entries(rng: &mut Rng, count: usize) -> Vec<u8> {
     let (low_d, high_d) = rng.pick(&[(0, 0), (1, 1), (0, 1)]);
     let mut entry = || 0x80 | rng.small(low_d, high_d) << 6 | rng.pick(&TYPES).0;
     (0..count).map(|_| entry()).collect()
-}
-
-/// An entry octet with a reserved type and any F and D.
-fn reserved_entry(rng: &mut Rng) -> u8 {
-    let reserved = |kind: &u8| TYPES.iter().all(|row| row.0 != *kind);
-    let kinds: Vec<u8> = (0..64).filter(reserved).collect();
-    rng.small(0, 3) << 6 | rng.pick(&kinds)
 }
 
 /// Octets that may follow a fault: they change nothing about it.
@@ -193,29 +155,26 @@ fn any_maximum(rng: &mut Rng) -> u8 {
     }
 }
 
-fn case(agreed: Agreed, payload: Vec<u8>, meant: Option<Meaning>) -> Case {
-    Case { name: "", agreed, payload, meant }
-}
-
-fn refused(agreed: Agreed, payload: Vec<u8>, refusal: u8) -> Case {
-    case(agreed, payload, Some(Err(refusal)))
+/// A payload that may mean anything, named later.
+fn open(agreed: Agreed, octets: Vec<u8>) -> Case {
+    Case::open("", Payload { agreed, octets })
 }
 
 fn good_interleaved(rng: &mut Rng) -> Case {
     let agreed = interleaved(rng);
     let draft = Draft::good(rng, agreed);
-    case(agreed, draft.payload(), Some(Ok(draft.contents())))
+    open(agreed, draft.payload()).accepted(draft.contents())
 }
 
 fn good_header_free(rng: &mut Rng) -> Case {
     let agreed = header_free(rng);
     let (kind, size) = rng.pick(&TYPES[1..4]);
-    case(agreed, rng.octets(size), Some(Ok(Contents::alone(kind, 0, size))))
+    open(agreed, rng.octets(size)).accepted(alone(kind, 0, size))
 }
 
 /// No octet.
 fn aimed_1(rng: &mut Rng) -> Case {
-    refused(interleaved(rng), Vec::new(), 1)
+    open(interleaved(rng), Vec::new()).refused(1)
 }
 
 /// N above L; L may be above its maximum too.
@@ -224,7 +183,7 @@ fn aimed_2(rng: &mut Rng) -> Case {
     let l = rng.small(0, 6);
     let mut payload = vec![first(rng, l, l + 1, 7)];
     payload.extend(any_tail(rng, agreed));
-    refused(agreed, payload, 2)
+    open(agreed, payload).refused(2)
 }
 
 /// L above its maximum.
@@ -233,7 +192,7 @@ fn aimed_3(rng: &mut Rng) -> Case {
     let l = rng.small(agreed.max_l + 1, 7);
     let mut payload = vec![first(rng, l, 0, l)];
     payload.extend(any_tail(rng, agreed));
-    refused(agreed, payload, 3)
+    open(agreed, payload).refused(3)
 }
 
 /// The table runs past the payload, at the latest where the next entry would
@@ -243,7 +202,7 @@ fn aimed_4(rng: &mut Rng) -> Case {
     let mut payload = vec![good_first(rng, agreed)];
     let count = rng.between(0, agreed.max_b.into());
     payload.extend(more_entries(rng, count));
-    refused(agreed, payload, 4)
+    open(agreed, payload).refused(4)
 }
 
 /// A reserved type in an entry within the maximum.
@@ -254,7 +213,7 @@ fn aimed_5(rng: &mut Rng) -> Case {
     payload.extend(more_entries(rng, count));
     payload.push(reserved_entry(rng));
     payload.extend(any_tail(rng, agreed));
-    refused(agreed, payload, 5)
+    open(agreed, payload).refused(5)
 }
 
 /// An entry past the maximum, of a reserved type or not.
@@ -268,7 +227,7 @@ fn aimed_6(rng: &mut Rng) -> Case {
         _ => rng.octet(),
     });
     payload.extend(any_tail(rng, agreed));
-    refused(agreed, payload, 6)
+    open(agreed, payload).refused(6)
 }
 
 /// Bodies cut.
@@ -280,7 +239,7 @@ fn aimed_7(rng: &mut Rng) -> Case {
     }
     let kept = rng.between(0, draft.bodies.len() - 1);
     draft.bodies.truncate(kept);
-    refused(agreed, draft.payload(), 7)
+    open(agreed, draft.payload()).refused(7)
 }
 
 /// Octets left over.
@@ -289,7 +248,7 @@ fn aimed_8(rng: &mut Rng) -> Case {
     let mut payload = Draft::good(rng, agreed).payload();
     let more = rng.pick(&[1, 1, 2, 10, 22, 80]);
     payload.extend(rng.octets(more));
-    refused(agreed, payload, 8)
+    open(agreed, payload).refused(8)
 }
 
 /// Header-free, of another length than 2, 10 or 22.
@@ -297,7 +256,7 @@ fn aimed_9(rng: &mut Rng) -> Case {
     let agreed = header_free(rng);
     let lengths: Vec<usize> = (0..=60).filter(|len| ![2, 10, 22].contains(len)).collect();
     let len = rng.pick(&lengths);
-    refused(agreed, rng.octets(len), 9)
+    open(agreed, rng.octets(len)).refused(9)
 }
 
 /// A maximum out of range, whatever the payload.
@@ -311,14 +270,14 @@ fn aimed_21_maxima(rng: &mut Rng) -> Case {
         1 => (inside.max_l, bad_b),
         _ => (bad_l, bad_b),
     };
-    refused(Agreed { form: 1, max_l, max_b }, payload, 21)
+    open(Agreed { form: 1, max_l, max_b }, payload).refused(21)
 }
 
 /// No such form, whatever the payload and the maxima.
 fn aimed_21_form(rng: &mut Rng) -> Case {
     let form = rng.small(2, 255);
     let agreed = Agreed { form, max_l: any_maximum(rng), max_b: any_maximum(rng) };
-    refused(agreed, any_payload(rng), 21)
+    open(agreed, any_payload(rng)).refused(21)
 }
 
 /// A good payload with one or two damages.
@@ -327,65 +286,42 @@ fn damaged(rng: &mut Rng) -> Case {
         0 => good_header_free(rng),
         _ => good_interleaved(rng),
     };
-    let mut payload = good.payload;
-    for _ in 0..rng.between(1, 2) {
-        damage(rng, &mut payload);
-    }
-    case(good.agreed, payload, None)
-}
-
-/// Cuts a payload, or changes, adds or removes one octet, or flips the F of
-/// one near its start, where the table is.
-fn damage(rng: &mut Rng, payload: &mut Vec<u8>) {
-    let len = payload.len();
-    if len == 0 {
-        payload.push(rng.octet());
-        return;
-    }
-    match rng.between(0, 4) {
-        0 => payload.truncate(rng.between(0, len - 1)),
-        1 => payload[rng.between(0, len - 1)] = rng.octet(),
-        2 => payload.insert(rng.between(0, len), rng.octet()),
-        3 => {
-            payload.remove(rng.between(0, len - 1));
-        }
-        _ => payload[rng.between(0, len.min(11) - 1)] ^= 0x80,
-    }
+    let Payload { agreed, mut octets } = good.input;
+    damage(rng, &mut octets);
+    open(agreed, octets)
 }
 
 /// A payload good in one form, read in the other.
 fn another_form(rng: &mut Rng) -> Case {
     match rng.between(0, 1) {
         0 => {
-            let payload = good_interleaved(rng).payload;
-            case(header_free(rng), payload, None)
+            let payload = good_interleaved(rng).input.octets;
+            open(header_free(rng), payload)
         }
         _ => {
-            let payload = good_header_free(rng).payload;
-            case(interleaved(rng), payload, None)
+            let payload = good_header_free(rng).input.octets;
+            open(interleaved(rng), payload)
         }
     }
 }
 
 /// Good for some maxima, read under any.
 fn any_maxima(rng: &mut Rng) -> Case {
-    let payload = good_interleaved(rng).payload;
+    let payload = good_interleaved(rng).input.octets;
     let agreed = Agreed { form: 1, max_l: any_maximum(rng), max_b: any_maximum(rng) };
-    case(agreed, payload, None)
+    open(agreed, payload)
 }
 
 /// Few octets, of those that stand in good tables.
 fn likely_octets(rng: &mut Rng) -> Case {
-    let len = rng.between(0, 16);
-    let mut octet = || rng.small(0, 3) << 6 | rng.pick(&[0, 0, 0, 1, 1, 3, 4, 14, 2, 8, 9]);
-    let payload = (0..len).map(|_| octet()).collect();
-    case(interleaved(rng), payload, None)
+    let payload = likely(rng, 16);
+    open(interleaved(rng), payload)
 }
 
 fn short_random(rng: &mut Rng) -> Case {
     let len = rng.between(0, 24);
     let payload = rng.octets(len);
-    case(Agreed { form: rng.small(0, 2), ..interleaved(rng) }, payload, None)
+    open(Agreed { form: rng.small(0, 2), ..interleaved(rng) }, payload)
 }
 
 fn random(rng: &mut Rng) -> Case {
@@ -396,13 +332,13 @@ fn random(rng: &mut Rng) -> Case {
         max_l: any_maximum(rng),
         max_b: any_maximum(rng),
     };
-    case(agreed, payload, None)
+    open(agreed, payload)
 }
 
 /// Any payload at all.
 fn any_payload(rng: &mut Rng) -> Vec<u8> {
     let make = rng.pick(&[good_interleaved, good_header_free, aimed_1, damaged, short_random]);
-    make(rng).payload
+    make(rng).input.octets
 }
 
 /// Far more octets than a packet has: in the table, after the bodies, in a
@@ -414,15 +350,15 @@ fn long(rng: &mut Rng) -> Case {
         0 => {
             let mut payload = vec![good_first(rng, agreed)];
             payload.extend(more_entries(rng, len));
-            refused(agreed, payload, 6)
+            open(agreed, payload).refused(6)
         }
         1 => {
             let mut payload = Draft::good(rng, agreed).payload();
             payload.extend(rng.octets(len));
-            refused(agreed, payload, 8)
+            open(agreed, payload).refused(8)
         }
-        2 => refused(header_free(rng), rng.octets(len), 9),
-        _ => case(agreed, rng.octets(len), None),
+        2 => open(header_free(rng), rng.octets(len)).refused(9),
+        _ => open(agreed, rng.octets(len)),
     }
 }
 
@@ -433,11 +369,9 @@ pub fn shortest() -> impl Iterator<Item = Case> {
     let one = (0..=255).map(|a| vec![a]);
     let two = (0..=255).flat_map(|a| (0..=255).map(move |b| vec![a, b]));
     none.chain(one).chain(two).flat_map(move |payload| {
-        forms.map(|(form, max_l, max_b)| Case {
-            name: "shortest",
-            agreed: Agreed { form, max_l, max_b },
-            payload: payload.clone(),
-            meant: None,
+        forms.map(|(form, max_l, max_b)| {
+            let agreed = Agreed { form, max_l, max_b };
+            Case { name: "shortest", ..open(agreed, payload.clone()) }
         })
     })
 }
@@ -446,30 +380,28 @@ pub fn shortest() -> impl Iterator<Item = Case> {
 pub fn every_maximum() -> impl Iterator<Item = Case> {
     let draft = Draft { first: 0x08, table: vec![0x81, 0x41], bodies: vec![0x11; 4] };
     let pairs = (0..=255).flat_map(|max_l| (0..=255).map(move |max_b| (max_l, max_b)));
-    pairs.map(move |(max_l, max_b)| Case {
-        name: "every maximum",
-        agreed: Agreed { form: 1, max_l, max_b },
-        payload: draft.payload(),
-        meant: Some(match (max_l, max_b) {
+    pairs.map(move |(max_l, max_b)| {
+        let meant = match (max_l, max_b) {
             (8.., _) | (_, 0 | 11..) => Err(21),
             (0, _) => Err(3),
             (_, 1) => Err(6),
             _ => Ok(draft.contents()),
-        }),
+        };
+        let agreed = Agreed { form: 1, max_l, max_b };
+        Case { name: "every maximum", ..open(agreed, draft.payload()).means(meant) }
     })
 }
 
 /// Two zero octets under every form: a Rate 1/8 body, or one Blank.
 pub fn every_form() -> impl Iterator<Item = Case> {
-    (0..=255).map(|form| Case {
-        name: "every form",
-        agreed: Agreed { form, max_l: 5, max_b: 10 },
-        payload: vec![0, 0],
-        meant: Some(match form {
-            0 => Ok(Contents::alone(1, 0, 2)),
-            1 => Ok(Contents::alone(0, 2, 0)),
+    (0..=255).map(|form| {
+        let meant = match form {
+            0 => Ok(alone(1, 0, 2)),
+            1 => Ok(alone(0, 2, 0)),
             _ => Err(21),
-        }),
+        };
+        let agreed = Agreed { form, max_l: 5, max_b: 10 };
+        Case { name: "every form", ..open(agreed, vec![0, 0]).means(meant) }
     })
 }
 
@@ -482,13 +414,14 @@ pub fn every_length() -> impl Iterator<Item = Case> {
     lengths.flat_map(move |len| {
         let octets = vec![0x11; len];
         let row = TYPES[1..4].iter().find(|(_, size)| *size == len);
-        let alone = row.map(|&(kind, size)| Contents::alone(kind, 0, size)).ok_or(9);
+        let alone = row.map(|&(kind, size)| alone(kind, 0, size)).ok_or(9);
         let more = [draft.payload(), octets.clone()].concat();
         let left = if len == 0 { Ok(draft.contents()) } else { Err(8) };
-        let agreed = Agreed { form: 0, max_l: 5, max_b: 10 };
+        let header_free = Agreed { form: 0, max_l: 5, max_b: 10 };
+        let interleaved = Agreed { form: 1, ..header_free };
         [
-            Case { name, agreed, payload: octets, meant: Some(alone) },
-            Case { name, agreed: Agreed { form: 1, ..agreed }, payload: more, meant: Some(left) },
+            Case { name, ..open(header_free, octets).means(alone) },
+            Case { name, ..open(interleaved, more).means(left) },
         ]
     })
 }
@@ -506,16 +439,15 @@ pub fn every_group(rng: &mut Rng) -> Vec<Case> {
             let draft = Draft::with_bodies(rng, first, table);
             for (max_l, max_b) in [(first >> 3 & 7, b as u8), (7, 10)] {
                 let agreed = Agreed { form: 1, max_l, max_b };
-                let meant = Some(Ok(draft.contents()));
-                cases.push(Case { name: "every group", agreed, payload: draft.payload(), meant });
+                let case = open(agreed, draft.payload()).accepted(draft.contents());
+                cases.push(Case { name: "every group", ..case });
             }
         }
     }
     cases
 }
 
-/// Every neighbour of some good payloads: each cut, each octet removed, each
-/// bit flipped, an octet added at each place.
+/// Every neighbour of some good payloads.
 pub fn neighbours(rng: &mut Rng, bases: usize) -> Vec<Case> {
     let mut cases = Vec::new();
     for number in 0..bases {
@@ -523,23 +455,9 @@ pub fn neighbours(rng: &mut Rng, bases: usize) -> Vec<Case> {
             0 => good_header_free(rng),
             _ => good_interleaved(rng),
         };
-        let mut add = |payload| {
-            let name = "neighbour";
-            cases.push(Case { name, agreed: base.agreed, payload, meant: None });
-        };
-        let good = &base.payload;
-        for at in 0..good.len() {
-            add(good[..at].to_vec());
-            add([&good[..at], &good[at + 1..]].concat());
-            for bit in 0..8 {
-                let mut flipped = good.clone();
-                flipped[at] ^= 1 << bit;
-                add(flipped);
-            }
-        }
-        for at in 0..=good.len() {
-            add([&good[..at], &[rng.octet()], &good[at..]].concat());
-        }
+        let Payload { agreed, octets } = base.input;
+        let neighbour = |octets| Case { name: "neighbour", ..open(agreed, octets) };
+        cases.extend(neighbours_of(rng, &octets).into_iter().map(neighbour));
     }
     cases
 }

@@ -1,4 +1,7 @@
-//! Frame types and their bodies (document 01, "Frames").
+//! Frame types and their bodies (document 01, "Frames"), and how a reader
+//! gives frames ("Payloads").
+
+use super::Slip;
 
 /// The types of the table; "all others are reserved".
 #[derive(Clone, Copy, Debug, PartialEq, Eq)]
@@ -8,6 +11,14 @@ pub enum FrameType {
     Half,
     Full,
     Erasure,
+}
+
+/// A frame: its type and where its body lies in the octets it was read from.
+#[derive(Clone, Copy, Debug, PartialEq, Eq)]
+pub struct Frame {
+    pub kind: FrameType,
+    pub start: usize,
+    pub size: usize,
 }
 
 impl FrameType {
@@ -20,6 +31,18 @@ impl FrameType {
             4 => Some(FrameType::Full),
             14 => Some(FrameType::Erasure),
             _ => None,
+        }
+    }
+
+    /// The type of an entry, F x 128 + D x 64 + type; 5 if it is reserved.
+    pub fn of_entry(octet: u8, slip: Slip) -> Result<FrameType, u8> {
+        let number = match slip {
+            Slip::TypeOfFourBits => octet % 16,
+            _ => octet % 64,
+        };
+        match FrameType::numbered(number) {
+            Some(FrameType::Erasure) if slip == Slip::ErasureReserved => Err(5),
+            kind => kind.ok_or(5),
         }
     }
 
@@ -42,4 +65,54 @@ impl FrameType {
             FrameType::Full => 22,
         }
     }
+}
+
+impl Frame {
+    /// The frame of this type whose body begins at `start`.
+    pub fn at(start: usize, kind: FrameType) -> Frame {
+        Frame { kind, start, size: kind.body() }
+    }
+
+    pub fn end(&self) -> usize {
+        self.start + self.size
+    }
+
+    /// Its body, as far as it is there.
+    pub fn body<'a>(&self, octets: &'a [u8]) -> &'a [u8] {
+        &octets[self.start..self.end().min(octets.len())]
+    }
+
+    /// Whether this is a Rate 1 frame with one of its 5 spare bits set: "the
+    /// low 5 bits of its octet 22 are zero when sent".
+    pub fn has_spare(&self, octets: &[u8]) -> bool {
+        self.kind == FrameType::Full && self.body(octets).get(21).is_some_and(|o| o & 0x1F != 0)
+    }
+}
+
+/// Frames as a reader gives them: each with "the very part [...] where its body
+/// lies", an empty one where it would lie; and "our readers keep [spare] bits
+/// as they came".
+pub fn given(mut frames: Vec<Frame>, octets: &[u8], slip: Slip) -> Result<Vec<Frame>, u8> {
+    if slip == Slip::SpareBitsRefused && frames.iter().any(|frame| frame.has_spare(octets)) {
+        return Err(17);
+    }
+    if slip == Slip::EmptyBodyStartsAtZero {
+        frames.iter_mut().filter(|frame| frame.size == 0).for_each(|frame| frame.start = 0);
+    }
+    Ok(frames)
+}
+
+/// Frame `k` of those read. "A frame is asked for by its number; one not below
+/// the frame count answers 21." What was refused answers its refusal.
+pub fn asked(read: Result<&[Frame], u8>, k: usize, slip: Slip) -> Result<Frame, u8> {
+    let frames = match read {
+        Err(_) if slip == Slip::RefusedFrameAnswers21 => return Err(21),
+        read => read?,
+    };
+    let found = match slip {
+        Slip::FrameNumberCut => frames.get(k as u32 as usize),
+        Slip::FrameCountOffByOne if k == frames.len() => frames.last(),
+        _ => frames.get(k),
+    };
+    found.copied().ok_or(21)
 }

@@ -5,9 +5,12 @@
 //! Every reading takes a [`Slip`]: `Slip::None` is document 01, any other is
 //! document 01 with one deliberate mistake, which the comparison has to catch.
 
+mod entries;
 mod form;
 pub mod frames;
 pub mod payload;
+pub mod recordings;
+mod room;
 mod slip;
 
 pub use form::{Form, Limits};

@@ -2,7 +2,7 @@
 
 use std::cmp::Ordering;
 
-use super::frames::FrameType;
+use super::frames::{self, Frame, FrameType};
 use super::{Form, Limits, Slip};
 
 /// What a reader gives for an accepted payload. B is the number of frames.
@@ -12,14 +12,6 @@ pub struct Reading {
     pub n: u8,
     pub d: u8,
     pub frames: Vec<Frame>,
-}
-
-/// A frame: its type and where in the payload its body lies.
-#[derive(Clone, Copy, Debug, PartialEq, Eq)]
-pub struct Frame {
-    pub kind: FrameType,
-    pub start: usize,
-    pub size: usize,
 }
 
 /// An entry of the table of contents: F x 128 + D x 64 + type.
@@ -37,25 +29,7 @@ pub fn read(form: Form, payload: &[u8], slip: Slip) -> Result<Reading, u8> {
         Form::HeaderFree => read_header_free(payload, slip),
         Form::Interleaved(limits) => read_interleaved(limits, payload, slip),
     }?;
-    if slip == Slip::SpareBitsRefused && reading.frames.iter().any(|f| f.has_spare(payload)) {
-        return Err(17);
-    }
-    Ok(reading)
-}
-
-/// Frame `k` of a payload. "A frame is asked for by its number; one not below
-/// the frame count answers 21." A refused payload answers its refusal.
-pub fn frame(form: Form, payload: &[u8], k: usize, slip: Slip) -> Result<Frame, u8> {
-    let frames = match read(form, payload, slip) {
-        Err(_) if slip == Slip::RefusedFrameAnswers21 => return Err(21),
-        reading => reading?.frames,
-    };
-    let found = match slip {
-        Slip::FrameNumberCut => frames.get(k as u32 as usize),
-        Slip::FrameCountOffByOne if k == frames.len() => frames.last(),
-        _ => frames.get(k),
-    };
-    found.copied().ok_or(21)
+    Ok(Reading { frames: frames::given(reading.frames, payload, slip)?, ..reading })
 }
 
 /// "Type 2 (header-free): one body and nothing else, its type known by the
@@ -139,7 +113,7 @@ fn read_entry(octets: &[u8], number: usize, limits: Limits, slip: Slip) -> Resul
     };
     let four = octets.get(number).copied().ok_or(4);
     let six = if past { Err(6) } else { Ok(()) };
-    let five = |octet| Entry::of(octet, slip).ok_or(5);
+    let five = |octet| Entry::of(octet, slip);
     match slip {
         Slip::SixBeforeFour => {
             six?;
@@ -162,14 +136,15 @@ fn read_entry(octets: &[u8], number: usize, limits: Limits, slip: Slip) -> Resul
 /// 7 if they need more octets than are there, 8 if octets are left.
 fn lay_out(table: &[Entry], len: usize, slip: Slip) -> Result<Vec<Frame>, u8> {
     let mut end = 1 + table.len();
-    let frames = table
-        .iter()
-        .map(|entry| {
-            let (start, size) = (end, entry.kind.body());
-            end += size;
-            Frame { kind: entry.kind, start: start_shown(start, size, slip), size }
-        })
-        .collect();
+    let mut frames = Vec::with_capacity(table.len());
+    for entry in table {
+        let frame = Frame::at(end, entry.kind);
+        end = frame.end();
+        frames.push(frame);
+    }
+    if slip == Slip::StartOffByOneEntry {
+        frames.iter_mut().for_each(|frame| frame.start -= 1);
+    }
     match end.cmp(&len) {
         Ordering::Greater => Err(7),
         Ordering::Less if slip != Slip::LeftOverAllowed => Err(8),
@@ -177,34 +152,10 @@ fn lay_out(table: &[Entry], len: usize, slip: Slip) -> Result<Vec<Frame>, u8> {
     }
 }
 
-/// A body starts where it lies; an empty one where it would lie.
-fn start_shown(start: usize, size: usize, slip: Slip) -> usize {
-    match slip {
-        Slip::StartOffByOneEntry => start - 1,
-        Slip::EmptyBodyStartsAtZero if size == 0 => 0,
-        _ => start,
-    }
-}
-
 impl Entry {
-    /// The entry an octet is, unless its type is reserved.
-    fn of(octet: u8, slip: Slip) -> Option<Entry> {
-        let number = match slip {
-            Slip::TypeOfFourBits => octet % 16,
-            _ => octet % 64,
-        };
-        let kind = FrameType::numbered(number)?;
-        if slip == Slip::ErasureReserved && kind == FrameType::Erasure {
-            return None;
-        }
-        Some(Entry { more: octet / 128 == 1, d: octet / 64 % 2, kind })
-    }
-}
-
-impl Frame {
-    /// Whether this is a Rate 1 frame with one of its 5 spare bits set, which
-    /// "our readers keep [...] as they came" (document 01, "Frames").
-    fn has_spare(&self, payload: &[u8]) -> bool {
-        self.kind == FrameType::Full && payload[self.start + 21] & 0x1F != 0
+    /// The entry an octet is; 5 if its type is reserved.
+    fn of(octet: u8, slip: Slip) -> Result<Entry, u8> {
+        let kind = FrameType::of_entry(octet, slip)?;
+        Ok(Entry { more: octet / 128 == 1, d: octet / 64 % 2, kind })
     }
 }

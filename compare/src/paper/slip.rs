@@ -1,8 +1,8 @@
 //! Deliberate slips: one mistake each, to see that the comparison catches it.
 
-/// Declares the slips once, and for each subject the list of its slips.
+/// Declares the slips, group by group, each with its words.
 macro_rules! slips {
-    ($($subject:ident { $($name:ident => $text:literal,)* })*) => {
+    ($($(#[$about:meta])* $group:ident { $($name:ident => $text:literal,)* })*) => {
         /// A mistake the reading makes on purpose; `None` is no mistake.
         #[derive(Clone, Copy, Debug, PartialEq, Eq)]
         pub enum Slip {
@@ -11,7 +11,7 @@ macro_rules! slips {
         }
 
         impl Slip {
-            $(pub const $subject: &'static [Slip] = &[$(Slip::$name,)*];)*
+            $($(#[$about])* pub const $group: &'static [Slip] = &[$(Slip::$name,)*];)*
 
             /// The mistake in words.
             pub fn text(self) -> &'static str {
@@ -25,11 +25,53 @@ macro_rules! slips {
 }
 
 slips! {
-    PAYLOAD {
+    /// In the agreed form.
+    FORM {
         FormAboveOneTaken => "a form above 1 counts as interleaved",
-        MaximaCheckedLate => "maxima out of range are noticed after the payload's faults",
+        MaximaCheckedLate => "maxima out of range are noticed after all other faults",
         MaximumBZeroTaken => "a maximum B of 0 counts as in range",
         HeaderFreeMaximaJudged => "header-free answers 21 for maxima out of range",
+    }
+
+    /// In an entry's type.
+    TYPES {
+        TypeOfFourBits => "only the low four bits of an entry are its type",
+        ErasureReserved => "type 14 counts as reserved",
+    }
+
+    /// In the walk over entries.
+    ENTRIES {
+        FNotIgnored => "an entry with F set counts as reserved",
+        DNotIgnored => "an entry with D set counts as reserved",
+        NineteenBeforeFive => "19 is judged over all entries before 5",
+        BodyCutOffByOne => "a body cut by one octet is accepted",
+        ReservedHasNoBody => "a reserved type counts as a Blank",
+        FaultEndsEntries => "a fault ends the entries and is not answered",
+    }
+
+    /// In what any reader shows.
+    READER {
+        SpareBitsRefused => "a Rate 1 frame with spare bits set is refused",
+        EmptyBodyStartsAtZero => "an empty body starts at 0",
+        RefusedFrameAnswers21 => "a frame asked of what is refused answers 21",
+        FrameCountOffByOne => "the frame numbered as the count is answered",
+        FrameNumberCut => "a frame number is cut to 32 bits",
+        RefusedReadClears => "a refused read call sets its out-parameters to 0",
+        RefusedFrameSizeZero => "a refused frame call sets the size to 0",
+    }
+
+    /// In what any writer shows.
+    WRITER {
+        RoomOneTooMuch => "a writer asks for one octet more than it needs",
+        RoomOneTooLittle => "a writer asks for one octet less than it needs",
+        RoomFilledBefore15 => "a writer fills the output before it answers 15",
+        RefusedWriteClears => "a refused writer sets the number of octets written to 0",
+        PastEndCleared => "a writer clears the output past its answer",
+        WrittenIsRoom => "a writer reports the output's length as written",
+    }
+
+    /// In the reading of payloads.
+    PAYLOAD {
         RrNotIgnored => "RR is read as part of L",
         NAboveLNotChecked => "N above L is accepted",
         ThreeBeforeTwo => "3 comes before 2",
@@ -38,19 +80,31 @@ slips! {
         SixBeforeFour => "6 comes before 4",
         FiveBeforeSix => "5 comes before 6",
         WholeTableFirst => "4 is judged over the whole table before any entry",
-        TypeOfFourBits => "only the low four bits of an entry are its type",
-        ErasureReserved => "type 14 counts as reserved",
         DFromFirstEntry => "the D reported is the first entry's",
-        SpareBitsRefused => "a Rate 1 frame with spare bits set is refused",
         LeftOverAllowed => "octets after the last body are accepted",
         StartOffByOneEntry => "bodies start one entry too early",
-        EmptyBodyStartsAtZero => "an empty body starts at 0",
         HeaderFreeLength5Accepted => "header-free length 5 is accepted",
         HeaderFreeEmptyAccepted => "a header-free payload of no octets is a Blank",
-        RefusedFrameAnswers21 => "a frame asked of a refused payload answers 21",
-        FrameCountOffByOne => "the frame numbered B is answered",
-        FrameNumberCut => "a frame number is cut to 32 bits",
-        RefusedReadClears => "a refused read call sets its out-parameters to 0",
-        RefusedFrameSizeZero => "a refused frame call sets the size to 0",
+    }
+
+    /// In the reading of recordings.
+    RECORDING_READ {
+        OpeningOneOctetShort => "the opening's last octet is not judged",
+        OpeningCutTaken => "a recording that ends in its opening has no frames",
+        OpeningAloneRefused => "a recording of no frames is refused",
+        OpeningJudgedLast => "5 and 19 come before 18",
+        StartAtEntryOctet => "a body starts at its entry octet",
+        FrameBeforeFaultGiven => "a frame before a fault is given",
+        CountOfSixteenBits => "frames are counted in 16 bits",
+    }
+
+    /// In the writing of recordings.
+    RECORDING_WRITE {
+        FKept => "F is written as it came",
+        DKept => "D is written as it came",
+        OpeningNotWritten => "entries are written without the opening",
+        FifteenBeforeWalk => "15 comes before 5 and 19",
+        RecordingSpareBitsRefused => "a recording refuses spare bits with 17",
+        RecordingErasureRefused => "a recording refuses an erasure with 17",
     }
 }

@@ -2,8 +2,10 @@
 //! and some more. What they state was worked out by hand, and both the library
 //! and the paper's reading have to give it.
 
-use crate::calls::{Agreed, FrameOut, ReadOut};
-use crate::inputs::payloads::{Case, Contents, Meaning};
+use crate::calls::{Agreed, ReadOut};
+use crate::inputs::hex;
+use crate::inputs::payloads::{Case, Payload};
+use crate::trial::Contents;
 
 /// The marked examples P1 to P10 and P14 (document 01, "Marked examples").
 /// "Maxima 5 and 10 unless named."
@@ -61,45 +63,30 @@ pub fn further() -> Vec<Case> {
     ]
 }
 
-/// A row that does not yet say what it means.
-struct Row(Case);
-
 /// A row with its payload as document 01 writes it, interleaved under the
 /// default maxima.
-fn row(name: &'static str, payload: &str) -> Row {
-    let octet = |text| u8::from_str_radix(text, 16).expect("a row is written in hex");
-    let payload = payload.split_whitespace().map(octet).collect();
-    Row(Case { name, agreed: Agreed { form: 1, max_l: 5, max_b: 10 }, payload, meant: None })
+fn row(name: &'static str, payload: &str) -> Case {
+    let agreed = Agreed { form: 1, max_l: 5, max_b: 10 };
+    Case::open(name, Payload { agreed, octets: hex(payload) })
 }
 
-impl Row {
-    fn maxima(mut self, max_l: u8, max_b: u8) -> Row {
-        self.0.agreed = Agreed { max_l, max_b, ..self.0.agreed };
+impl Case {
+    fn maxima(mut self, max_l: u8, max_b: u8) -> Case {
+        self.input.agreed = Agreed { max_l, max_b, ..self.input.agreed };
         self
     }
 
-    fn form(mut self, form: u8) -> Row {
-        self.0.agreed.form = form;
+    fn form(mut self, form: u8) -> Case {
+        self.input.agreed.form = form;
         self
     }
 
-    fn header_free(self) -> Row {
+    fn header_free(self) -> Case {
         self.form(0)
-    }
-
-    fn refused(self, refusal: u8) -> Case {
-        self.means(Err(refusal))
     }
 
     /// Accepted: L, N, B, D; then type, start and size of each frame.
     fn gives(self, [l, n, b, d]: [u8; 4], frames: &[(u8, usize, usize)]) -> Case {
-        let frame = |&(kind, start, size): &(u8, usize, usize)| FrameOut { kind, start, size };
-        let frames = frames.iter().map(frame).collect();
-        self.means(Ok(Contents { read: ReadOut { l, n, b, d }, frames }))
-    }
-
-    fn means(mut self, meaning: Meaning) -> Case {
-        self.0.meant = Some(meaning);
-        self.0
+        self.accepted(Contents::listed(ReadOut { l, n, b, d }, frames))
     }
 }

@@ -32,4 +32,9 @@ determined = record {
   lvRecordingRead = λ κs a x y s t p q. p ∙ sym q;
   lvRecordingFrame = λ κs a x y s t p q. p ∙ sym q;
   lvRecordingWrite = λ κs a x y s t p q. p ∙ sym q;
+  recordingSeek = λ κs a x y s t p q. p ∙ sym q;
+  packetWrite = λ κs a x y s t p q. cc (p .answer, p .output, q .answer, q .output);
+  packetWriteHeaderFree = λ κs a x y s t p q. cc (p .answer, p .output, q .answer, q .output);
+  lvPacketWrite = λ κs a x y s t p q. p ∙ sym q;
+  lvPacketWriteHeaderFree = λ κs a x y s t p q. p ∙ sym q;
 }

@@ -63,6 +63,16 @@ use Rattle.landing.proofs.lv_recording_frame.Kinds as landing-lv-recording-fram
 use Rattle.landing.proofs.lv_recording_frame.Reads as landing-lv-recording-frame
 use Rattle.landing.proofs.lv_recording_write.Kinds as landing-lv-recording-write-kinds
 use Rattle.landing.proofs.lv_recording_write.Reads as landing-lv-recording-write
+use Rattle.recording.proofs.seek.Kinds as recording-seek-kinds
+use Rattle.recording.proofs.seek.Reads as recording-seek
+use Rattle.packet.proofs.write.Kinds as packet-write-kinds
+use Rattle.packet.proofs.write.Reads as packet-write
+use Rattle.packet.proofs.write_header_free.Kinds as packet-write-header-free-kinds
+use Rattle.packet.proofs.write_header_free.Reads as packet-write-header-free
+use Rattle.landing.proofs.lv_packet_write.Kinds as landing-lv-packet-write-kinds
+use Rattle.landing.proofs.lv_packet_write.Reads as landing-lv-packet-write
+use Rattle.landing.proofs.lv_packet_write_header_free.Kinds as landing-lv-packet-write-header-free-kinds
+use Rattle.landing.proofs.lv_packet_write_header_free.Reads as landing-lv-packet-write-header-free
 
 -- what a contract allows fixes the answer
 unfoldable pub AnswerFixed : (n : ℕ) (ps : List (PK n)) (r : RK n) → Out n ps r → Type 0
@@ -106,3 +116,8 @@ pub record Determined : Type 0 where
   pub lvRecordingRead : OutcomeFixed 2 landing-lv-recording-read-kinds.ps landing-lv-recording-read-kinds.r landing-lv-recording-read.Post CountTold (λ κs x s. countTold x (now (s .1 .0)))
   pub lvRecordingFrame : OutcomeFixed 4 landing-lv-recording-frame-kinds.ps landing-lv-recording-frame-kinds.r landing-lv-recording-frame.Post PlaceTold (λ κs x s. placeTold x (now (s .1 .1 .0)) (now (s .1 .1 .1 .0)) (now (s .1 .1 .1 .1 .0)))
   pub lvRecordingWrite : OutcomeFixed 3 landing-lv-recording-write-kinds.ps landing-lv-recording-write-kinds.r landing-lv-recording-write.Post WriteTold (λ κs x s. writeTold x (now (s .1 .1 .0)) (now (s .1 .0)))
+  pub recordingSeek : AnswerFixed 1 recording-seek-kinds.ps recording-seek-kinds.r recording-seek.Post
+  pub packetWrite : OutcomeFixed 2 packet-write-kinds.ps packet-write-kinds.r packet-write.Post (Written × List ℕ) (λ κs x s. (x, now (s .1 .1 .1 .1 .1 .1 .0)))
+  pub packetWriteHeaderFree : OutcomeFixed 2 packet-write-header-free-kinds.ps packet-write-header-free-kinds.r packet-write-header-free.Post (Written × List ℕ) (λ κs x s. (x, now (s .1 .1 .0)))
+  pub lvPacketWrite : OutcomeFixed 3 landing-lv-packet-write-kinds.ps landing-lv-packet-write-kinds.r landing-lv-packet-write.Post WriteTold (λ κs x s. writeTold x (now (s .1 .1 .1 .1 .1 .1 .1 .1 .1 .0)) (now (s .1 .1 .1 .1 .1 .1 .1 .1 .0)))
+  pub lvPacketWriteHeaderFree : OutcomeFixed 3 landing-lv-packet-write-header-free-kinds.ps landing-lv-packet-write-header-free-kinds.r landing-lv-packet-write-header-free.Post WriteTold (λ κs x s. writeTold x (now (s .1 .1 .1 .1 .1 .0)) (now (s .1 .1 .1 .1 .0)))

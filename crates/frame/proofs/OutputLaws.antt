@@ -9,6 +9,7 @@ use Rattle.octets.specs.Octets.{over}
 use Rattle.frame.specs.Outputs.{Made, octets, refused, writtenOf, outAfter, Writes}
 use Rattle.frame.specs.declared.Refusal.{Refusal}
 use Rattle.frame.specs.declared.Refusal.the-variants.{NoRoom}
+use Rattle.frame.specs.declared.Written.{Written}
 use Rattle.frame.specs.declared.Written.the-variants.{Octets, Refused}
 
 -- nothing is made, so nothing is written
@@ -29,3 +30,7 @@ writes-octets m out w after n e h q a =
       answer = rw (le-leb _ _ h) (ap Octets q);
       output = rw (le-leb _ _ h) (a ∙ ap (λ (i : ℕ). w ++ drop i out) (zero-add (length w)));
     })
+
+-- what is made is what another call makes
+pub writes-as : (m m′ : Made) (before : List ℕ) (r : Written) (after : List ℕ) → m ≡ m′ → Writes m′ before r after → Writes m before r after
+writes-as m m′ before r after e x = rw e x

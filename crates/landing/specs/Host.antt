@@ -17,6 +17,8 @@ use Rattle.payload.specs.Shown.{givenAs}
 use Rattle.payload.specs.declared.Contents.{Contents}
 use Rattle.payload.specs.declared.Contents.the-variants as contents
 use Rattle.frame.specs.Outputs.{Made, writtenOf, outAfter}
+use Rattle.frame.specs.Outputs as outputs
+use Rattle.packet.specs.Writing.{packetMade, headerFreeMade}
 use Rattle.frame.specs.declared.Written.{Written}
 use Rattle.frame.specs.declared.Written.the-variants as written
 use Rattle.recording.specs.declared.Counted.{Counted}
@@ -39,6 +41,15 @@ readNamed v (Refused r) p = payload.refused r
 unfoldable pub givenNamed : Vocoder → Named → List ℕ → Given
 givenNamed v (Agreed f) p = givenAs v f p
 givenNamed v (Refused r) p = places.refused r
+
+-- what the writers make in the form that the host names
+unfoldable pub packetNamed : Vocoder → Named → ℕ → ℕ → ℕ → ℕ → List ℕ → Made
+packetNamed v (Agreed f) l n b d es = packetMade v f l n b d es
+packetNamed v (Refused r) l n b d es = outputs.refused r
+
+unfoldable pub headerFreeNamed : Vocoder → Named → List ℕ → Made
+headerFreeNamed v (Agreed f) es = headerFreeMade v f es
+headerFreeNamed v (Refused r) es = outputs.refused r
 
 -- what a host sees of a payload: the answer, and its four numbers L, N, B and D
 pub data PacketTold : Type 0 where

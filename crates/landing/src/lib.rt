@@ -9,6 +9,7 @@ use recording::Counted;
 ghost use mathlib.Core.Path.{_≡_};
 ghost use Rattle.frame.specs.Table.{evrc};
 ghost use Rattle.frame.specs.Places.{locatedOf};
+ghost use Rattle.frame.specs.Outputs.{Writes};
 ghost use Rattle.payload.specs.Shown.{contentsOf};
 ghost use Rattle.recording.specs.Recording.{evrcOpening, recorded, recordingMade};
 ghost use Rattle.recording.specs.Shown.{countedOf, givenIn};
@@ -25,6 +26,8 @@ ghost use Rattle.landing.specs.Host.{
   writtenAfter,
   writeTold,
   writeAfter,
+  packetNamed,
+  headerFreeNamed,
 };
 
 // The agreed form that a host names by a number and two maxima, or the refusal.
@@ -184,4 +187,71 @@ pub extern "C" fn lv_recording_write(entries: &[u8], out: &mut [u8], written: &m
     ensures { λ r. ⌜ writeTold r (now (written .exit)) (now (out .exit)) ≡ writeAfter (recordingMade evrc evrcOpening (now (entries .entry))) (now (written .entry)) (now (out .entry)) ⌝ }
 {
     tell_written(recording::write(entries, out), written)
+}
+
+fn packet_named(
+    form: u8,
+    max_l: u8,
+    max_b: u8,
+    l: u8,
+    n: u8,
+    b: u8,
+    d: u8,
+    entries: &[u8],
+    out: &mut [u8],
+) -> Written
+    ensures { λ r. ⌜ Writes (packetNamed evrc (namedForm form «max_l» «max_b») l n b d (now (entries .entry))) (now (out .entry)) r (now (out .exit)) ⌝ }
+{
+    let named = form_named(form, max_l, max_b);
+    match named {
+        Named::Refused(r) => Written::Refused(r),
+        Named::Agreed(agreed) => packet::write(agreed, l, n, b, d, entries, out),
+    }
+}
+
+// Writes packet n of an interleave group.
+#[no_mangle]
+pub extern "C" fn lv_packet_write(
+    form: u8,
+    max_l: u8,
+    max_b: u8,
+    l: u8,
+    n: u8,
+    b: u8,
+    d: u8,
+    entries: &[u8],
+    out: &mut [u8],
+    written: &mut usize,
+) -> u8
+    ensures { λ r. ⌜ writeTold r (now (written .exit)) (now (out .exit)) ≡ writeAfter (packetNamed evrc (namedForm form «max_l» «max_b») l n b d (now (entries .entry))) (now (written .entry)) (now (out .entry)) ⌝ }
+{
+    tell_written(
+        packet_named(form, max_l, max_b, l, n, b, d, entries, out),
+        written,
+    )
+}
+
+fn header_free_named(form: u8, max_l: u8, max_b: u8, entries: &[u8], out: &mut [u8]) -> Written
+    ensures { λ r. ⌜ Writes (headerFreeNamed evrc (namedForm form «max_l» «max_b») (now (entries .entry))) (now (out .entry)) r (now (out .exit)) ⌝ }
+{
+    let named = form_named(form, max_l, max_b);
+    match named {
+        Named::Refused(r) => Written::Refused(r),
+        Named::Agreed(agreed) => packet::write_header_free(agreed, entries, out),
+    }
+}
+
+// Writes a header-free packet.
+#[no_mangle]
+pub extern "C" fn lv_packet_write_header_free(
+    form: u8,
+    max_l: u8,
+    max_b: u8,
+    entries: &[u8],
+    out: &mut [u8],
+    written: &mut usize,
+) -> u8
+    ensures { λ r. ⌜ writeTold r (now (written .exit)) (now (out .exit)) ≡ writeAfter (headerFreeNamed evrc (namedForm form «max_l» «max_b») (now (entries .entry))) (now (written .entry)) (now (out .entry)) ⌝ }
+{
+    tell_written(header_free_named(form, max_l, max_b, entries, out), written)
 }

@@ -2,11 +2,12 @@
 use Prim.Native.Nat.{ℕ, suc, _+_, _-_, _≤_, _<_}
 use mathlib.Core.Bool.{Bool, true, false, _&&_}
 use mathlib.Core.Path.{_≡_, refl, sym, ap, _∙_}
-use mathlib.Core.List.{List, [], _∷_, _++_}
+use mathlib.Core.List.{List, [], _∷_, _++_, append-assoc, append-nil}
+use native.Mathlib.Nat.{add-zero}
 use native.Mathlib.Numerals.{add-one}
 use native.Mathlib.Omega.{arith}
-use lib.ListN.{length-drop, length-append, length, take, drop, getD, set, drop-of-length-le}
-use lib.Seq.{take-append-seam, drop-append-add, drop-drop, drop-cons, paste, paste-suc, take-all}
+use lib.ListN.{take-append-drop, length-drop, length-append, length, take, drop, getD, set, drop-of-length-le}
+use lib.Seq.{take-at, drop-append-add, drop-drop, drop-cons, length-take-le, paste, paste-suc, take-all}
 use lib.Dec.{eqb}
 use borrow.Author.Tests.{eq-eqb, ne-eqb, eqb-true}
 use Rattle.octets.specs.Octets.{over, sameOctets, allZero}
@@ -93,13 +94,38 @@ copy-all d at s dst i e h k =
     e ∙ ap (λ (l : List ℕ). take at d ++ l ++ drop (at + i) d) q ∙ ap (λ (n : ℕ). take at d ++ s ++ drop (at + n) d) p
 
 -- one list written behind another is both written together
-pub over-over : (d xs ys : List ℕ) → over (over d 0 xs) (length xs) ys ≡ over d 0 (xs ++ ys)
+pub over-append : (d : List ℕ) (at : ℕ) (xs ys : List ℕ) → at ≤ length d → over (over d at xs) (at + length xs) ys ≡ over d at (xs ++ ys)
 unfolding over
-over-over d xs ys =
-    let a : take (length xs) (xs ++ drop (0 + length xs) d) ≡ xs = take-append-seam xs (drop (0 + length xs) d) in
-    let b : drop (length xs + length ys) (xs ++ drop (0 + length xs) d) ≡ drop (length ys) (drop (0 + length xs) d) = drop-append-add xs (drop (0 + length xs) d) (length ys) in
-    let c : 0 + length xs + length ys ≡ 0 + length (xs ++ ys) = omega (arith, length-append xs ys) in
-    rw (a, b, drop-drop (length ys) (0 + length xs) d, c)
+over-append d at xs ys h =
+    let A = take at d ++ xs in
+    let R = drop (at + length xs) d in
+    let n : length A ≡ at + length xs = length-append (take at d) xs ∙ ap (λ (k : ℕ). k + length xs) (length-take-le at d h) in
+    let a : take (at + length xs) (A ++ R) ≡ A = take-at A R (at + length xs) n in
+    let m : at + length xs + length ys ≡ at + length (xs ++ ys) = omega (arith, length-append xs ys) in
+    let b : drop (at + length xs + length ys) (A ++ R) ≡ drop (at + length (xs ++ ys)) d =
+    ap (λ (k : ℕ). drop (k + length ys) (A ++ R)) (sym n) ∙ drop-append-add A R (length ys) ∙ drop-drop (length ys) (at + length xs) d
+    ∙ ap (λ (k : ℕ). drop k d) m in
+    rw (a, b) (ap (λ (l : List ℕ). l ++ drop (at + length (xs ++ ys)) d) (append-assoc (take at d) xs ys))
+
+-- nothing written over changes nothing
+pub over-nothing : (d : List ℕ) (at : ℕ) → d ≡ over d at []
+unfolding over
+over-nothing d at = sym (rw (append-nil, add-zero) (take-append-drop at d))
+
+pub length-over : (d : List ℕ) (at : ℕ) (s : List ℕ) → at + length s ≤ length d → length (over d at s) ≡ length d
+unfolding over
+length-over d at s h =
+    let a = length-append (take at d ++ s) (drop (at + length s) d) in
+    let b = length-append (take at d) s in
+    let c = length-take-le at d (omega arith) in
+    let e = length-drop (at + length s) d in
+    omega (arith, a)
+
+-- one octet stored is one octet written over
+pub set-over : (d : List ℕ) (x : ℕ) → 0 < length d → set d 0 x ≡ over d 0 (x ∷ [])
+unfolding over
+set-over [] x h = absurd (omega arith)
+set-over (y ∷ d) x h = refl
 
 -- ---- a part that goes to the end, `&s[n..]`
 pub to-the-end : (p : List ℕ) (n : ℕ) → take (length p - n) (drop n p) ≡ drop n p

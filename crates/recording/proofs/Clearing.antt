@@ -14,7 +14,9 @@ use Rattle.octets.proofs.Logic.{apart}
 use Rattle.frame.specs.Table.{Vocoder, Frame, known, size}
 use Rattle.frame.specs.Entry.{typeOf}
 use Rattle.frame.specs.declared.Refusal.the-variants.{ReservedType, NotSendable, BodyCut}
-use Rattle.recording.specs.Entries.{Recorded, frames, refused, put, frameOf, entries, entriesOf, cleared}
+use Rattle.recording.specs.Entries.{Recorded, frames, refused, put, frameOf, entries, allowed, entriesIn, entriesOf, cleared}
+use Rattle.recording.specs.declared.Rule.{Rule}
+use Rattle.recording.specs.declared.Rule.the-variants.{Any}
 
 pub length-cleared : (v : Vocoder) (n : ℕ) (es : List ℕ) → length (cleared v n es) ≡ length es
 unfolding cleared
@@ -73,3 +75,24 @@ module _ (v : Vocoder) (es : List ℕ) (i : ℕ) (h : i < length es) where
   unfolding cleared
   clears-octet zero e p = let x = split ∙ e ∙ ap (cleared v 0) after in record { here = cc; rest = cc }
   clears-octet (suc l) e p = absurd (omega arith)
+
+-- what is read under a rule is read as the same frames under none
+any-entry : (f : Frame) (w u : Recorded) (fs : List Frame) (good short fine : Bool) → ((gs : List Frame) → w ≡ frames gs → u ≡ frames gs) →
+    cond good (cond short (refused BodyCut) (cond fine (put f w) (refused NotSendable))) (refused ReservedType) ≡ frames fs →
+    cond good (cond short (refused BodyCut) (put f u)) (refused ReservedType) ≡ frames fs
+any-entry f w u fs false short fine i h = apart (cc)
+any-entry f w u fs true true fine i h = apart (cc)
+any-entry f w u fs true false false i h = apart (cc)
+any-entry f w u fs true false true i h =
+    let x = unput f fs w h in
+    ap (put f) (i (x .0) (x .2)) ∙ ap frames (sym (x .1))
+
+any-reads : (v : Vocoder) (ok : Frame → Bool) (n : ℕ) (es : List ℕ) (fs : List Frame) → entries v ok n es ≡ frames fs → entries v (allowed v Any) n es ≡ frames fs
+unfolding entries allowed
+any-reads v ok n [] fs e = e
+any-reads v ok (suc n) (x ∷ es) fs e = any-reads v ok n es fs e
+any-reads v ok zero (x ∷ es) fs e =
+    any-entry (frameOf v x es) (entries v ok (size v (typeOf x)) es) (entries v (allowed v Any) (size v (typeOf x)) es) fs (known v (typeOf x)) (ltb (length es) (size v (typeOf x))) (ok (frameOf v x es)) (any-reads v ok (size v (typeOf x)) es) e
+
+pub read-any : (v : Vocoder) (rule : Rule) (es : List ℕ) (fs : List Frame) → entriesIn v rule es ≡ frames fs → entriesIn v Any es ≡ frames fs
+read-any v rule es fs e = any-reads v (allowed v rule) 0 es fs e

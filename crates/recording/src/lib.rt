@@ -104,8 +104,9 @@ pub fn read(recording: &[u8]) -> Counted
     }
 }
 
+// internal: a caller has walked the entries, and k is below their count.
 // The place of entry k among entries.
-fn seek(entries: &[u8], k: usize) -> usize
+pub fn seek(entries: &[u8], k: usize) -> usize
     requires { ⌜ k < length (framesIn (entriesIn evrc Rule.Any (now entries))) ⌝ }
     ensures { λ r. ⌜ r ≡ taken 1 (take k (framesIn (entriesIn evrc Rule.Any (now (entries .entry))))) ⌝ }
 {

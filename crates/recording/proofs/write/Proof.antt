@@ -8,7 +8,7 @@ use borrow.Author.Needs.{needs}
 use Rattle.octets.specs.Octets.{over}
 use Rattle.frame.proofs.OutputLaws.{writes-refusal, writes-no-room, writes-octets}
 use Rattle.frame.specs.Table.{evrc}
-use Rattle.octets.proofs.OctetLaws.{over-over}
+use Rattle.octets.proofs.OctetLaws.{over-append}
 use Rattle.recording.specs.Entries.{cleared}
 use Rattle.recording.specs.Recording.{evrcOpening}
 use Rattle.recording.proofs.Answering.{made-refused, made-frames, made-length}
@@ -56,7 +56,7 @@ returns-4 c =
     let es = now (c .before .before .before .before .before .before .before .before .before .before .before .before .before .before .before .before .args .entries) in
     let n = made-length evrc evrcOpening es in
     writes-octets _ _ _ _ _ (made-frames evrc evrcOpening _ _ (sym (c .before .before .before .before .before .before .before .before .before .before .before .enum-told .given .1) ∙ c .before .before .before .before .before .before .before .before .before .before .before .before .before .count .ensures)) (omega arith) (sym n)
-    (c .before .before .write-cleared .ensures ∙ ap (λ (l : List ℕ). over l 7 (cleared evrc 0 es)) (c .before .before .before .before .before .before .copy .ensures) ∙ over-over (now (c .before .before .before .before .before .before .before .before .before .before .before .before .before .before .before .before .args .out)) evrcOpening (cleared evrc 0 es))
+    (c .before .before .write-cleared .ensures ∙ ap (λ (l : List ℕ). over l 7 (cleared evrc 0 es)) (c .before .before .before .before .before .before .copy .ensures) ∙ over-append (now (c .before .before .before .before .before .before .before .before .before .before .before .before .before .before .before .before .args .out)) 0 evrcOpening (cleared evrc 0 es) (omega arith))
 
 pub write-spec : {M : Type 1} → statement M
 write-spec =

@@ -1,0 +1,4 @@
+pub mod Numbering
+pub mod Packing
+pub mod Picking
+pub mod Choosing

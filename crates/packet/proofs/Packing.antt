@@ -1,0 +1,134 @@
+-- The frames of packet N, their table of contents and their bodies. Assumes nothing.
+use Prim.Native.Nat.{ℕ, zero, suc, _+_, _*_, _≤_, _<_}
+use mathlib.Core.Path.{_≡_, refl, sym, ap, _∙_}
+use mathlib.Core.List.{List, [], _∷_, _++_, append-assoc, append-nil}
+use mathlib.Core.Logic.{_⊎_, inl, inr, ⊎-elim}
+use mathlib.Core.Bool.{Bool, true, false}
+use native.Mathlib.Nat.{le-of-suc-le-suc, zero-add, add-comm}
+use native.Mathlib.Numerals.{add-one}
+use native.Mathlib.Omega.{arith}
+use lib.ListN.{length, getD, set, length-append, List·getD-append}
+use lib.Seq.{getD-at, paste}
+use lib.Dec.{ltb}
+use borrow.Author.Tests.{ltb-true, ltb-false}
+use Rattle.octets.specs.Octets.{over}
+use Rattle.octets.proofs.OctetLaws.{copy-more, set-over, over-append}
+use Rattle.frame.specs.Table.{Frame}
+use Rattle.frame.specs.Places.{frameAt, noFrame}
+use Rattle.packet.specs.Packet.{placeOf, packetFrames, typesOf, bodiesOf, follows, tocOf, packed}
+
+le-split : (i j : ℕ) → i ≤ j → (i < j) ⊎ (i ≡ j)
+le-split i j h = go (ltb i j) refl
+  where
+    go : (b : Bool) → ltb i j ≡ b → (i < j) ⊎ (i ≡ j)
+    go true e = inl (ltb-true i j e)
+    go false e = let q = ltb-false i j e in inr (omega arith)
+
+pub length-packet : (l n b : ℕ) (fs : List Frame) → length (packetFrames l n b fs) ≡ b
+unfolding packetFrames
+length-packet l n zero fs = refl
+length-packet l n (suc b) fs =
+    let i = length-packet l n b fs in
+    let a = length-append (packetFrames l n b fs) (frameAt fs (placeOf l n b) ∷ []) in
+    omega arith
+
+-- "Frame k of packet N stands at time place k x (L + 1) + N."
+pub packet-at : (l n b : ℕ) (fs : List Frame) (k : ℕ) → k < b → frameAt (packetFrames l n b fs) k ≡ frameAt fs (placeOf l n k)
+unfolding packetFrames
+packet-at l n zero fs k h = absurd (omega arith)
+packet-at l n (suc b) fs k h = ⊎-elim (λ (q : k < b). before q (packet-at l n b fs k q)) (λ (q : k ≡ b). here q) (le-split k b (le-of-suc-le-suc h))
+  where
+    xs : List Frame
+    xs = packetFrames l n b fs
+
+    before : k < b → frameAt xs k ≡ frameAt fs (placeOf l n k) → frameAt (xs ++ (frameAt fs (placeOf l n b) ∷ [])) k ≡ frameAt fs (placeOf l n k)
+    before q i = List·getD-append xs (frameAt fs (placeOf l n b) ∷ []) noFrame k (omega (arith, length-packet l n b fs)) ∙ i
+
+    here : k ≡ b → frameAt (xs ++ (frameAt fs (placeOf l n b) ∷ [])) k ≡ frameAt fs (placeOf l n k)
+    here q = getD-at xs (frameAt fs (placeOf l n b)) [] noFrame k (length-packet l n b fs ∙ sym q) ∙ ap (λ (j : ℕ). frameAt fs (placeOf l n j)) (sym q)
+
+pub types-at : (fs : List Frame) (k : ℕ) → getD (typesOf fs) k 0 ≡ frameAt fs k .type
+types-at [] k = refl
+types-at (f ∷ fs) zero = refl
+types-at (f ∷ fs) (suc k) = types-at fs k
+
+pub length-types : (fs : List Frame) → length (typesOf fs) ≡ length fs
+length-types [] = refl
+length-types (f ∷ fs) = ap suc (length-types fs)
+
+pub length-toc : (d : ℕ) (ts : List ℕ) → length (tocOf d ts) ≡ length ts
+length-toc d [] = refl
+length-toc d (t ∷ ts) = ap suc (length-toc d ts)
+
+-- an entry that another follows, and the last
+pub toc-more : (d : ℕ) (ts : List ℕ) (k : ℕ) → k + 1 < length ts → getD (tocOf d ts) k 0 ≡ 128 + d * 64 + getD ts k 0
+toc-more d [] k h = absurd (omega arith)
+toc-more d (t ∷ []) k h = absurd (omega arith)
+toc-more d (t ∷ u ∷ ts) zero h = refl
+toc-more d (t ∷ u ∷ ts) (suc k) h = toc-more d (u ∷ ts) k (omega arith)
+
+pub toc-last : (d : ℕ) (ts : List ℕ) (k : ℕ) → k + 1 ≡ length ts → getD (tocOf d ts) k 0 ≡ d * 64 + getD ts k 0
+toc-last d [] k h = absurd (omega arith)
+toc-last d (t ∷ []) zero h = ap (λ (x : ℕ). x + t) (zero-add (d * 64))
+toc-last d (t ∷ []) (suc k) h = absurd (omega arith)
+toc-last d (t ∷ u ∷ ts) zero h = absurd (omega arith)
+toc-last d (t ∷ u ∷ ts) (suc k) h = toc-last d (u ∷ ts) k (omega arith)
+
+-- bodies, a frame at a time
+bodies-append : (xs ys : List Frame) → bodiesOf (xs ++ ys) ≡ bodiesOf xs ++ bodiesOf ys
+bodies-append [] ys = refl
+bodies-append (f ∷ xs) ys = ap (λ (l : List ℕ). f .body ++ l) (bodies-append xs ys) ∙ sym (append-assoc (f .body) (bodiesOf xs) (bodiesOf ys))
+
+pub bodies-next : (l n k : ℕ) (fs : List Frame) → bodiesOf (packetFrames l n (k + 1) fs) ≡ bodiesOf (packetFrames l n k fs) ++ frameAt fs (placeOf l n k) .body
+unfolding packetFrames
+bodies-next l n k fs =
+    rw (add-one k) (bodies-append (packetFrames l n k fs) (frameAt fs (placeOf l n k) ∷ []) ∙ ap (λ (x : List ℕ). bodiesOf (packetFrames l n k fs) ++ x) (append-nil (frameAt fs (placeOf l n k) .body)))
+
+pub bodies-within : (l n k b : ℕ) (fs : List Frame) → k ≤ b → length (bodiesOf (packetFrames l n k fs)) ≤ length (bodiesOf (packetFrames l n b fs))
+unfolding packetFrames
+bodies-within l n k zero fs h = let z : k ≡ 0 = omega arith in rw z (omega arith)
+bodies-within l n k (suc b) fs h = ⊎-elim (λ (q : k < suc b). less (bodies-within l n k b fs (le-of-suc-le-suc q))) (λ (q : k ≡ suc b). rw q (omega arith)) (le-split k (suc b) h)
+  where
+    less : length (bodiesOf (packetFrames l n k fs)) ≤ length (bodiesOf (packetFrames l n b fs)) → length (bodiesOf (packetFrames l n k fs)) ≤ length (bodiesOf (packetFrames l n (suc b) fs))
+    less i =
+        let a = bodies-append (packetFrames l n b fs) (frameAt fs (placeOf l n b) ∷ []) in
+        let c = length-append (bodiesOf (packetFrames l n b fs)) (bodiesOf (frameAt fs (placeOf l n b) ∷ [])) in
+        omega (arith, ap length a)
+
+-- the table of contents of packet N, an entry at a time
+module _ (l n b d : ℕ) (fs : List Frame) where
+  pub length-table : length (tocOf d (typesOf (packetFrames l n b fs))) ≡ b
+  length-table = length-toc d (typesOf (packetFrames l n b fs)) ∙ length-types (packetFrames l n b fs) ∙ length-packet l n b fs
+
+  types : length (typesOf (packetFrames l n b fs)) ≡ b
+  types = length-types (packetFrames l n b fs) ∙ length-packet l n b fs
+
+  type-of : (k : ℕ) → k < b → getD (typesOf (packetFrames l n b fs)) k 0 ≡ frameAt fs (placeOf l n k) .type
+  type-of k h = types-at (packetFrames l n b fs) k ∙ ap (λ (f : Frame). f .type) (packet-at l n b fs k h)
+
+  pub table-more : (k : ℕ) → k + 1 < b → 128 + d * 64 + frameAt fs (placeOf l n k) .type ≡ getD (tocOf d (typesOf (packetFrames l n b fs))) k 0
+  table-more k h =
+      sym (toc-more d (typesOf (packetFrames l n b fs)) k (omega (arith, types)) ∙ ap (λ (t : ℕ). 128 + d * 64 + t) (type-of k (omega arith)))
+
+  pub table-last : (k : ℕ) → k + 1 ≡ b → d * 64 + frameAt fs (placeOf l n k) .type ≡ getD (tocOf d (typesOf (packetFrames l n b fs))) k 0
+  table-last k h =
+      sym (toc-last d (typesOf (packetFrames l n b fs)) k (h ∙ sym types) ∙ ap (λ (t : ℕ). d * 64 + t) (type-of k (omega arith)))
+
+-- one entry of a table stored behind octet 0
+pub entry-stored : (d t out : List ℕ) (k x : ℕ) → out ≡ paste d 1 t k → 1 + length t ≤ length d → k < length t → x ≡ getD t k 0 → set out (k + 1) x ≡ paste d 1 t (k + 1)
+entry-stored d t out k x e h q y =
+    ap (set out (k + 1)) y ∙ ap (λ (j : ℕ). set out j (getD t k 0)) (add-comm k 1) ∙ copy-more d 1 t out k e h q
+
+-- the whole packet: its octets, and how it is written, octet 0, then the table of contents, then the bodies
+module _ (l n b d : ℕ) (fs : List Frame) where
+  pub length-packed : length (packed l n d (packetFrames l n b fs)) ≡ 1 + b + length (bodiesOf (packetFrames l n b fs))
+  length-packed = omega (arith, length-append (tocOf d (typesOf (packetFrames l n b fs))) (bodiesOf (packetFrames l n b fs)), length-table l n b d fs)
+
+  pub packed-over : (out : List ℕ) → 0 < length out → over (over (set out 0 (l * 8 + n)) 1 (tocOf d (typesOf (packetFrames l n b fs)))) (1 + b) (bodiesOf (packetFrames l n b fs)) ≡ over out 0 (packed l n d (packetFrames l n b fs))
+  packed-over out h =
+      let x = l * 8 + n in
+      let t = tocOf d (typesOf (packetFrames l n b fs)) in
+      let z = bodiesOf (packetFrames l n b fs) in
+      let a : over (set out 0 x) 1 t ≡ over out 0 (x ∷ t) = ap (λ (o : List ℕ). over o 1 t) (set-over out x h) ∙ over-append out 0 (x ∷ []) t (omega arith) in
+      let m : 1 + b ≡ 0 + length (x ∷ t) = omega (arith, length-table l n b d fs) in
+      ap (λ (o : List ℕ). over o (1 + b) z) a ∙ ap (λ (i : ℕ). over (over out 0 (x ∷ t)) i z) m ∙ over-append out 0 (x ∷ t) z (omega arith)

@@ -1,0 +1,124 @@
+-- `packet::write_bodies` meets its contract. The invariant: the first k bodies stand in out behind the table of contents. Assumes nothing.
+use Prim.Native.Nat.{ℕ, _+_, _-_, _≤_}
+use mathlib.Core.List.{List}
+use mathlib.Core.Path.{_≡_, refl, sym, ap, _∙_}
+use native.Mathlib.Omega.{arith}
+use lib.ListN.{length}
+use denote.Ref.{now}
+use borrow.Author.Needs.{needs}
+use Rattle.frame.specs.Places.{frameAt}
+use Rattle.frame.specs.Table.{evrc}
+use Rattle.octets.proofs.OctetLaws.{over-append, over-nothing}
+use Rattle.octets.specs.Octets.{over}
+use Rattle.packet.specs.Packet.{placeOf, packetFrames, bodiesOf, groupIn}
+use Rattle.packet.proofs.Picking.{next-body}
+use Rattle.packet.proofs.Packing.{bodies-next}
+use Rattle.packet.proofs.write_bodies.Statement.{statement}
+use Rattle.packet.proofs.write_bodies.Tie as tie
+
+abbrev Inv-loop : tie.InvT-loop
+Inv-loop out₀ l n b entries to₀ k₀ out to k =
+    (k ≤ b) × (length out ≡ length out₀) × (to ≡ 1 + b + length (bodiesOf (packetFrames l n k (groupIn evrc entries)))) ×
+    (out ≡ over out₀ (1 + b) (bodiesOf (packetFrames l n k (groupIn evrc entries))))
+
+abbrev μ-loop : tie.MeasureT-loop
+μ-loop out₀ l n b entries to₀ k₀ out to k = b - k
+
+add-to : tie.Need-add-to Inv-loop μ-loop
+add-to c = omega (arith, c .before .before .pre .0 .bundle-small)
+
+loop-holds : tie.Need-loop-holds Inv-loop μ-loop
+unfolding packetFrames
+loop-holds c = (omega arith, refl, omega arith, over-nothing (now (c .before .before .args .out)) (1 + c .before .before .args .b))
+
+entry-of-requires : tie.Need-entry-of-requires Inv-loop μ-loop
+entry-of-requires c κs = (c .before .before .before .before .pre .0, c .loop-test .taken)
+
+add-start : tie.Need-add-start Inv-loop μ-loop
+add-start c = omega (arith, c .entry-of .ensures .here)
+
+shared-slice-read-body-size : tie.Need-shared-slice-read-body-size Inv-loop μ-loop
+shared-slice-read-body-size c = c .before .entry-of .ensures .here
+
+body-size-requires : tie.Need-body-size-requires Inv-loop μ-loop
+body-size-requires c κs = search needs
+
+add-end : tie.Need-add-end Inv-loop μ-loop
+add-end c = omega (arith, c .before .before .entry-of .ensures .inside, c .body-size .ensures)
+
+sub-copy : tie.Need-sub-copy Inv-loop μ-loop
+sub-copy c = omega arith
+
+part-copy-start : tie.Need-part-copy-start Inv-loop μ-loop
+part-copy-start c = omega arith
+
+part-copy-end : tie.Need-part-copy-end Inv-loop μ-loop
+part-copy-end c = omega (arith, c .before .before .before .entry-of .ensures .inside, c .before .body-size .ensures)
+
+copy-requires : tie.Need-copy-requires Inv-loop μ-loop
+copy-requires c κs =
+    let es = now (c .before .before .before .before .before .before .before .before .before .args .entries) in
+    let x = next-body evrc (c .before .before .before .before .before .before .before .before .before .args .l) (c .before .before .before .before .before .before .before .before .before .args .n) (c .before .before .before .before .before .before .before .before .before .args .b) (c .before .before .before .before .before .before .loop .k) es (groupIn evrc es) (c .before .before .before .before .entry-of .result) (c .before .before .body-size .result) (c .before .before .before .before .entry-of .ensures) (c .before .before .body-size .ensures) (c .before .before .before .before .before .loop-test .taken) in
+    omega (arith, ap length (x .part), x .octets, x .total, x .within, c .before .before .before .before .before .before .loop .inv .1, c .before .before .before .before .before .before .loop .inv .2, c .before .before .before .before .before .before .before .before .before .pre .1)
+
+sub-to : tie.Need-sub-to Inv-loop μ-loop
+sub-to c = omega arith
+
+add-to-2 : tie.Need-add-to-2 Inv-loop μ-loop
+add-to-2 c =
+    let es = now (c .before .before .before .before .before .before .before .before .before .before .before .before .args .entries) in
+    let x = next-body evrc (c .before .before .before .before .before .before .before .before .before .before .before .before .args .l) (c .before .before .before .before .before .before .before .before .before .before .before .before .args .n) (c .before .before .before .before .before .before .before .before .before .before .before .before .args .b) (c .before .before .before .before .before .before .before .before .before .loop .k) es (groupIn evrc es) (c .before .before .before .before .before .before .before .entry-of .result) (c .before .before .before .before .before .body-size .result) (c .before .before .before .before .before .before .before .entry-of .ensures) (c .before .before .before .before .before .body-size .ensures) (c .before .before .before .before .before .before .before .before .loop-test .taken) in
+    omega (arith, x .total, x .within, c .before .before .before .before .before .before .before .before .before .loop .inv .2, c .before .before .before .before .before .before .before .before .before .before .before .before .pre .1)
+
+add-k : tie.Need-add-k Inv-loop μ-loop
+add-k c = omega (arith, c .before .before .before .before .before .before .before .before .before .before .before .before .pre .0 .bundle-small)
+
+loop-less : tie.Need-loop-less Inv-loop μ-loop
+loop-less c = omega arith
+
+loop-again : tie.Need-loop-again Inv-loop μ-loop
+loop-again c =
+    let es = now (c .before .before .before .before .before .before .before .before .before .before .before .before .args .entries) in
+    let fs = groupIn evrc es in
+    let x = next-body evrc (c .before .before .before .before .before .before .before .before .before .before .before .before .args .l) (c .before .before .before .before .before .before .before .before .before .before .before .before .args .n) (c .before .before .before .before .before .before .before .before .before .before .before .before .args .b) (c .before .before .before .before .before .before .before .before .before .loop .k) es fs (c .before .before .before .before .before .before .before .entry-of .result) (c .before .before .before .before .before .body-size .result) (c .before .before .before .before .before .before .before .entry-of .ensures) (c .before .before .before .before .before .body-size .ensures) (c .before .before .before .before .before .before .before .before .loop-test .taken) in
+    let xs = bodiesOf (packetFrames (c .before .before .before .before .before .before .before .before .before .before .before .before .args .l) (c .before .before .before .before .before .before .before .before .before .before .before .before .args .n) (c .before .before .before .before .before .before .before .before .before .loop .k) fs) in
+    let f = frameAt fs (placeOf (c .before .before .before .before .before .before .before .before .before .before .before .before .args .l) (c .before .before .before .before .before .before .before .before .before .before .before .before .args .n) (c .before .before .before .before .before .before .before .before .before .loop .k)) in
+    let room : 1 + c .before .before .before .before .before .before .before .before .before .before .before .before .args .b ≤ length (now (c .before .before .before .before .before .before .before .before .before .before .before .before .args .out)) = omega (arith, c .before .before .before .before .before .before .before .before .before .before .before .before .pre .1) in (
+      omega arith,
+      c .before .before .copy .kept .0 ∙ c .before .before .before .before .before .before .before .before .before .loop .inv .1,
+      omega (arith, x .total, c .before .before .before .before .before .before .before .before .before .loop .inv .2),
+      c .before .before .copy .ensures ∙ ap (over (c .before .before .before .before .before .before .before .before .before .loop .out) (c .before .before .before .before .before .before .before .before .before .loop .to)) (x .part) ∙ ap (λ (i : ℕ). over (c .before .before .before .before .before .before .before .before .before .loop .out) i (f .body)) (c .before .before .before .before .before .before .before .before .before .loop .inv .2) ∙ ap (λ (l : List ℕ). over l (1 + c .before .before .before .before .before .before .before .before .before .before .before .before .args .b + length xs) (f .body)) (c .before .before .before .before .before .before .before .before .before .loop .inv .3) ∙ over-append (now (c .before .before .before .before .before .before .before .before .before .before .before .before .args .out)) (1 + c .before .before .before .before .before .before .before .before .before .before .before .before .args .b) xs (f .body) room ∙ ap (over (now (c .before .before .before .before .before .before .before .before .before .before .before .before .args .out)) (1 + c .before .before .before .before .before .before .before .before .before .before .before .before .args .b)) (sym (bodies-next (c .before .before .before .before .before .before .before .before .before .before .before .before .args .l) (c .before .before .before .before .before .before .before .before .before .before .before .before .args .n) (c .before .before .before .before .before .before .before .before .before .loop .k) fs)),
+    )
+
+same-length : tie.Need-same-length Inv-loop μ-loop
+same-length c = c .before .loop .inv .1
+
+returns : tie.Need-returns Inv-loop μ-loop
+returns c =
+    let e : c .before .loop .k ≡ c .before .before .before .before .args .b = omega arith in
+    c .before .loop .inv .3 ∙ ap (λ (j : ℕ). over (now (c .before .before .before .before .args .out)) (1 + c .before .before .before .before .args .b) (bodiesOf (packetFrames (c .before .before .before .before .args .l) (c .before .before .before .before .args .n) j (groupIn evrc (now (c .before .before .before .before .args .entries)))))) e
+
+pub write-bodies-spec : {M : Type 1} → statement M
+write-bodies-spec =
+    tie.close
+    (tie.spec
+    Inv-loop
+    μ-loop
+    add-to
+    loop-holds
+    entry-of-requires
+    add-start
+    shared-slice-read-body-size
+    body-size-requires
+    add-end
+    sub-copy
+    part-copy-start
+    part-copy-end
+    copy-requires
+    sub-to
+    add-to-2
+    add-k
+    loop-less
+    loop-again
+    same-length
+    returns)

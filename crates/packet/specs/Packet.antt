@@ -1,0 +1,60 @@
+-- Document 01, "Payloads" and "Groups": the octets of a packet, and which of a group's frames it has.
+use Prim.Native.Nat.{ℕ, zero, suc, _+_, _*_, _<_, _≤_}
+use mathlib.Core.Path.{_≡_}
+use mathlib.Core.List.{List, [], _∷_, _++_}
+use lib.ListN.{length, take, drop, getD}
+use Rattle.frame.specs.Table.{Vocoder, Frame, size}
+use Rattle.frame.specs.Entry.{typeOf}
+use Rattle.frame.specs.Places.{frameAt}
+use Rattle.recording.specs.Entries.{entriesIn, framesIn}
+use Rattle.recording.specs.declared.Rule.the-variants.{Any}
+
+-- "Frame k of packet N stands at time place k x (L + 1) + N."
+abbrev pub placeOf : ℕ → ℕ → ℕ → ℕ
+placeOf l n k = k * (l + 1) + n
+
+-- the first b frames of packet N, of the group's frames in time order
+unfoldable pub packetFrames : ℕ → ℕ → ℕ → List Frame → List Frame
+packetFrames l n zero fs = []
+packetFrames l n (suc b) fs = packetFrames l n b fs ++ (frameAt fs (placeOf l n b) ∷ [])
+
+abbrev pub typesOf : List Frame → List ℕ
+typesOf [] = []
+typesOf (f ∷ fs) = f .type ∷ typesOf fs
+
+abbrev pub bodiesOf : List Frame → List ℕ
+bodiesOf [] = []
+bodiesOf (f ∷ fs) = f .body ++ bodiesOf fs
+
+-- "F = 1 says another entry follows"
+abbrev pub follows : List ℕ → ℕ
+follows [] = 0
+follows (t ∷ ts) = 128
+
+-- the table of contents: F x 128 + D x 64 + type; "our writer sets the same D in all"
+abbrev pub tocOf : ℕ → List ℕ → List ℕ
+tocOf d [] = []
+tocOf d (t ∷ ts) = (follows ts + d * 64 + t) ∷ tocOf d ts
+
+-- octet 0, with "RR written as 0", the table of contents and the bodies
+abbrev pub packed : ℕ → ℕ → ℕ → List Frame → List ℕ
+packed l n d fs = (l * 8 + n) ∷ (tocOf d (typesOf fs) ++ bodiesOf fs)
+
+-- the frames of entries, in time order
+abbrev pub groupIn : Vocoder → List ℕ → List Frame
+groupIn v es = framesIn (entriesIn v Any es)
+
+-- entries that have every frame of packet N's first b, of a group that is not too long
+pub record Picked (v : Vocoder) (l n b : ℕ) (es : List ℕ) : Type 0 where
+  pub length-small : l ≤ 7
+  pub index-in : n ≤ l
+  pub bundle-small : b ≤ 10
+  pub there : (l + 1) * b ≤ length (groupIn v es)
+
+-- the entry of a frame stands at a place of the octets, and its body behind it
+pub record EntryAt (v : Vocoder) (es : List ℕ) (at : ℕ) (f : Frame) : Type 0 where
+  pub here : at < length es
+  pub type : typeOf (getD es at 0) ≡ f .type
+  pub octets : size v (typeOf (getD es at 0)) ≡ length (f .body)
+  pub inside : at + 1 + size v (typeOf (getD es at 0)) ≤ length es
+  pub body : take (size v (typeOf (getD es at 0))) (drop (at + 1) es) ≡ f .body

@@ -38,3 +38,14 @@ void hex_print(const uint8_t *octets, size_t count)
     for (i = 0; i < count; i++)
         printf(" %02X", octets[i]);
 }
+
+void hex_tell(const char *name, uint8_t answer, const uint8_t *octets, size_t written)
+{
+    if (answer != 0) {
+        printf("%s: refused %u\n", name, (unsigned)answer);
+        return;
+    }
+    printf("%s: %lu octets:", name, (unsigned long)written);
+    hex_print(octets, written);
+    printf("\n");
+}

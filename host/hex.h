@@ -14,4 +14,7 @@ long hex_octets(const char *word, uint8_t *octets);
 /* Prints octets, each behind a space. */
 void hex_print(const uint8_t *octets, size_t count);
 
+/* Prints a line on what a call wrote: the refusal's number, or the octets. */
+void hex_tell(const char *name, uint8_t answer, const uint8_t *octets, size_t written);
+
 #endif

@@ -21,16 +21,10 @@ static uint8_t write_one(const uint8_t *at, const uint8_t *entries, size_t len, 
 static void print_one(const char *name, const uint8_t *numbers, const uint8_t *entries, size_t len, size_t room)
 {
     static uint8_t out[HEX_OCTETS];
-    size_t written;
+    size_t written = 0;
     uint8_t answer = write_one(numbers, entries, len, out, room, &written);
 
-    if (answer != LV_OK) {
-        printf("%s: refused %u\n", name, (unsigned)answer);
-        return;
-    }
-    printf("%s: %lu octets:", name, (unsigned long)written);
-    hex_print(out, written);
-    printf("\n");
+    hex_tell(name, answer, out, written);
 }
 
 /* Reads the numbers of a line; 0 where there is one that is none, or above 255. */

@@ -39,16 +39,10 @@ static void read_one(const char *name, const uint8_t *recording, size_t len)
 static void write_one(const char *name, const uint8_t *entries, size_t len, size_t room)
 {
     static uint8_t out[HEX_OCTETS + LV_OPENING_OCTETS];
-    size_t written;
+    size_t written = 0;
     uint8_t answer = lv_recording_write(entries, len, out, room, &written);
 
-    if (answer != LV_OK) {
-        printf("%s: refused %u\n", name, (unsigned)answer);
-        return;
-    }
-    printf("%s: %lu octets:", name, (unsigned long)written);
-    hex_print(out, written);
-    printf("\n");
+    hex_tell(name, answer, out, written);
 }
 
 int main(void)

@@ -1,4 +1,6 @@
 pub mod Marked
 pub mod PayloadClaims
 pub mod RecordingClaims
+pub mod PacketTrips
+pub mod PacketBack
 pub mod Outcomes

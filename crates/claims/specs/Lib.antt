@@ -1,4 +1,5 @@
 pub mod Examples
 pub mod Payloads
 pub mod Recordings
+pub mod Packets
 pub mod Determined

@@ -2,13 +2,13 @@
 use Prim.Native.Nat.{ℕ, _+_, _*_, _-_, _≤_, _<_}
 use mathlib.Core.Path.{_≡_, refl, sym, ap, _∙_}
 use mathlib.Core.List.{List, [], _∷_}
-use mathlib.Core.Bool.{Bool, true, false, cond, _&&_}
+use mathlib.Core.Bool.{Bool, true, false, cond}
 use native.Mathlib.Omega.{arith}
 use lib.ListN.{length, drop, getD, length-drop}
 use lib.Seq.{take-all}
-use lib.Dec.{leb, ltb}
-use borrow.Author.Tests.{leb-true, eq-eqb, ne-eqb, le-leb, lt-leb, lt-ltb, le-ltb}
-use Rattle.octets.proofs.Logic.{apart, both-true}
+use lib.Dec.{ltb}
+use borrow.Author.Tests.{eq-eqb, ne-eqb, le-leb, lt-leb, lt-ltb, le-ltb}
+use Rattle.octets.proofs.Logic.{apart}
 use Rattle.frame.specs.Table.{Vocoder, Frame, known, size}
 use Rattle.frame.specs.Entry.{typeOf}
 use Rattle.frame.specs.Agreed.{opened}
@@ -18,7 +18,7 @@ use Rattle.frame.specs.declared.Opened.the-variants as limits
 use Rattle.frame.specs.declared.Form.the-variants.{HeaderFree, Interleaved}
 use Rattle.frame.specs.declared.Refusal.{Refusal}
 use Rattle.frame.specs.declared.Refusal.the-variants.{ReservedType, BodyCut, IndexPastLength, LengthPastMaximum, TooManyFrames, NotSendable, NotApplicable}
-use Rattle.frame.proofs.AgreedLaws.{opened-agreed, opened-refused}
+use Rattle.frame.proofs.AgreedLaws.{opened-agreed, opened-refused, range-bounds}
 use Rattle.recording.specs.Entries.{Recorded, frames, put, frameOf, entries, allowed, entriesIn, framesIn}
 use Rattle.recording.specs.Entries as entry
 use Rattle.recording.specs.Shown.{countedOf}
@@ -70,10 +70,8 @@ module _ (v : Vocoder) (m : Limits) (l n b d : ℕ) (es : List ℕ) where
 pub opened-range : (m a : Limits) → opened (m .«max_l») (m .«max_b») ≡ limits.Agreed a → (a .«max_l» ≤ 7) × (a .«max_b» ≤ 10)
 opened-range m a e =
     let x = opened-agreed m a e in
-    let p = both-true (leb (m .«max_l») 7 && leb 1 (m .«max_b»)) (leb (m .«max_b») 10) (x .0) in
-    let q = both-true (leb (m .«max_l») 7) (leb 1 (m .«max_b»)) (p .0) in
-    let s = x .1 in
-    (omega (arith, ap (λ (y : Limits). y .«max_l») s, leb-true (m .«max_l») 7 (q .0)), omega (arith, ap (λ (y : Limits). y .«max_b») s, leb-true (m .«max_b») 10 (p .1)))
+    let r = range-bounds m (x .0) in
+    rw (x .1) (r .0, r .2)
 
 -- ---- the walk, and the frame count
 module _ (l n b d : ℕ) (w : Recorded) where

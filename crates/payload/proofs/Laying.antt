@@ -28,7 +28,7 @@ use Rattle.frame.specs.Entry.{typeOf}
 use Rattle.payload.specs.Payload.{Reading, packet, refused, Table, table, fault, toc, total, cut, bodies, interleaved, oneBody, readAs, lOf, nOf}
 use Rattle.payload.specs.Shown.{contentsOf, givenOf, givenAs}
 use Rattle.payload.specs.declared.Contents.the-variants.{Packet, Refused}
-use Rattle.payload.proofs.Tables.{Sound, toc-sound}
+use Rattle.payload.proofs.Tables.{Whole, Sound, toc-sound}
 use Rattle.payload.proofs.Checks.{length-cut}
 
 -- ---- sums of sizes
@@ -80,50 +80,88 @@ passed : (b : Bool) (r : Refusal) (x : Reading) (l n d : ℕ) (fs : List Frame) 
 passed true r x l n d fs e = apart (cc)
 passed false r x l n d fs e = (refl, e)
 
+-- octet 0, the table of contents and the bodies that its frames were cut from
+pub record Framed (v : Vocoder) (m : Limits) (p : List ℕ) (l n d : ℕ) (fs : List Frame) : Type 0 where
+  pub head : ℕ
+  pub es : List ℕ
+  pub ts : List ℕ
+  pub rest : List ℕ
+  pub split : p ≡ head ∷ es
+  pub range : inRange m ≡ true
+  pub l-is : lOf head ≡ l
+  pub n-is : nOf head ≡ n
+  pub index : nOf head ≤ lOf head
+  pub short : lOf head ≤ m .«max_l»
+  pub toc-is : toc v (m .«max_b») 0 es ≡ table ts d rest
+  pub whole : Whole (m .«max_b») 0 es ts rest
+  pub full : length rest ≡ total v ts
+  pub frames : fs ≡ cut v ts rest
+
+framed-table : (v : Vocoder) (m : Limits) (l n d x : ℕ) (es : List ℕ) (fs : List Frame) → inRange m ≡ true → nOf x ≤ lOf x → lOf x ≤ m .«max_l» → (w : Table) → toc v (m .«max_b») 0 es ≡ w → Sound (m .«max_b») 0 es w → bodies v (lOf x) (nOf x) w ≡ packet l n d fs → Framed v m (x ∷ es) l n d fs
+unfolding bodies
+framed-table v m l n d x es fs g i s (fault r) q h e = apart (cc)
+framed-table v m l n d x es fs g i s (table ts d′ rest) q h e =
+    let a = passed (ltb (length rest) (total v ts)) _ _ l n d fs e in
+    let b = passed (ltb (total v ts) (length rest)) _ _ l n d fs (a .1) in
+    let z : d′ ≡ d = cc (b .1) in
+    record {
+      head = x;
+      es = es;
+      ts = ts;
+      rest = rest;
+      split = refl;
+      range = g;
+      l-is = cc (b .1);
+      n-is = cc (b .1);
+      index = i;
+      short = s;
+      toc-is = q ∙ ap (λ (y : ℕ). table ts y rest) z;
+      whole = h;
+      full = omega (arith, ltb-false (length rest) (total v ts) (a .0), ltb-false (total v ts) (length rest) (b .0));
+      frames = cc (b .1);
+    }
+
+pub framed : (v : Vocoder) (m : Limits) (p : List ℕ) (l n d : ℕ) (fs : List Frame) → readAs v (Interleaved m) p ≡ packet l n d fs → Framed v m p l n d fs
+unfolding readAs interleaved
+framed v m p l n d fs e = at-range (inRange m) refl e
+  where
+    at-list : inRange m ≡ true → (q : List ℕ) → interleaved v m q ≡ packet l n d fs → Framed v m q l n d fs
+    at-list g [] k = apart (cc)
+    at-list g (x ∷ es) k =
+        let a = passed (ltb (lOf x) (nOf x)) _ _ l n d fs k in
+        let b = passed (ltb (m .«max_l») (lOf x)) _ _ l n d fs (a .1) in
+        framed-table v m l n d x es fs g (ltb-false _ _ (a .0)) (ltb-false _ _ (b .0)) (toc v (m .«max_b») 0 es) refl (toc-sound v (m .«max_b») 0 es) (b .1)
+
+    at-range : (b : Bool) → inRange m ≡ b → cond b (interleaved v m p) (refused NotApplicable) ≡ packet l n d fs → Framed v m p l n d fs
+    at-range true g k = at-list g p k
+    at-range false g k = apart (cc)
+
 -- its frames, of the types in the table of contents, lie one after the other behind that table and fill the payload
-record Framed (v : Vocoder) (p : List ℕ) (fs : List Frame) : Type 0 where
-  ts : List ℕ
+record Filled (v : Vocoder) (p : List ℕ) (fs : List Frame) (ts : List ℕ) : Type 0 where
   frames : fs ≡ cut v ts (drop (1 + length ts) p)
   types : ts ≡ take (length ts) (map typeOf (drop 1 p))
   fills : 1 + length ts + total v ts ≡ length p
+  many : length fs ≡ length ts
 
-framed-table : (v : Vocoder) (max l₀ n₀ l n d : ℕ) (x : ℕ) (es : List ℕ) (fs : List Frame) (w : Table) → Sound max 0 es w → bodies v l₀ n₀ w ≡ packet l n d fs → Framed v (x ∷ es) fs
-unfolding bodies
-framed-table v max l₀ n₀ l n d x es fs (fault r) h e = apart (cc)
-framed-table v max l₀ n₀ l n d x es fs (table ts d′ rest) h e =
-    let a = passed (ltb (length rest) (total v ts)) _ _ l n d fs e in
-    let b = passed (ltb (total v ts) (length rest)) _ _ l n d fs (a .1) in
-    let q : fs ≡ cut v ts rest = cc (b .1) in
-    record {
-      ts = ts;
-      frames = q ∙ ap (cut v ts) (h .follow ∙ simp one-add);
-      types = h .types;
-      fills = omega (arith, ltb-false (length rest) (total v ts) (a .0), ltb-false (total v ts) (length rest) (b .0), ap length (h .follow), length-drop (length ts) es, h .within);
-    }
-
-framed : (v : Vocoder) (m : Limits) (p : List ℕ) (l n d : ℕ) (fs : List Frame) → readAs v (Interleaved m) p ≡ packet l n d fs → Framed v p fs
-unfolding readAs interleaved
-framed v m p l n d fs e = at-range (inRange m) e
-  where
-    at-list : (q : List ℕ) → interleaved v m q ≡ packet l n d fs → Framed v q fs
-    at-list [] k = apart (cc)
-    at-list (x ∷ es) k =
-        let a = passed (ltb (lOf x) (nOf x)) _ _ l n d fs k in
-        let b = passed (ltb (m .«max_l») (lOf x)) _ _ l n d fs (a .1) in
-        framed-table v (m .«max_b») (lOf x) (nOf x) l n d x es fs (toc v (m .«max_b») 0 es) (toc-sound v (m .«max_b») 0 es) (b .1)
-
-    at-range : (b : Bool) → cond b (interleaved v m p) (refused NotApplicable) ≡ packet l n d fs → Framed v p fs
-    at-range true k = at-list p k
-    at-range false k = apart (cc)
-
-module _ (v : Vocoder) (p : List ℕ) (fs : List Frame) (o : Framed v p fs) where
-  many : length fs ≡ length (o .ts)
-  many = ap length (o .frames) ∙ length-cut v (o .ts) (drop (1 + length (o .ts)) p)
+module _ (v : Vocoder) (m : Limits) (p : List ℕ) (l n d : ℕ) (fs : List Frame) (o : Framed v m p l n d fs) where
+  filled : Filled v p fs (o .ts)
+  filled =
+      let h = o .whole in
+      let r : drop (length (o .ts)) (o .es) ≡ drop (1 + length (o .ts)) (o .head ∷ o .es) = simp one-add in
+      let f : fs ≡ cut v (o .ts) (drop (1 + length (o .ts)) p) =
+      o .frames ∙ ap (cut v (o .ts)) (h .follow ∙ r ∙ ap (drop (1 + length (o .ts))) (sym (o .split))) in
+      record {
+        frames = f;
+        types = h .types ∙ ap (λ (q : List ℕ). take (length (o .ts)) (map typeOf (drop 1 q))) (sym (o .split));
+        fills = omega (arith, o .full, ap length (o .split), ap length (h .follow), length-drop (length (o .ts)) (o .es), h .within);
+        many = ap length f ∙ length-cut v (o .ts) (drop (1 + length (o .ts)) p);
+      }
 
   framed-laid : Laid p (1 + length fs) 0 fs
   framed-laid =
-      let i = cut-laid v (o .ts) p (1 + length (o .ts)) (omega (arith, o .fills)) in
-      subst (λ (n : ℕ). Laid p (1 + n) 0 fs) (sym many) (subst (Laid p (1 + length (o .ts)) 0) (sym (o .frames)) i)
+      let x = filled in
+      let i = cut-laid v (o .ts) p (1 + length (o .ts)) (omega (arith, x .fills)) in
+      subst (λ (k : ℕ). Laid p (1 + k) 0 fs) (sym (x .many)) (subst (Laid p (1 + length (o .ts)) 0) (sym (x .frames)) i)
 
 -- entry k and the bodies before body k, as the octets have them
 abbrev pub typeIn : List ℕ → ℕ → ℕ
@@ -138,19 +176,20 @@ record Stands (v : Vocoder) (p : List ℕ) (fs : List Frame) (k : ℕ) : Type 0 
   octets : length (frameAt fs k .body) ≡ size v (typeIn p k)
   entry : k + 1 < length p
 
-stands : (v : Vocoder) (p : List ℕ) (fs : List Frame) (k : ℕ) → Framed v p fs → k < length fs → Stands v p fs k
-stands v p fs k o h =
-    let X = map typeOf (drop 1 p) in
-    let bs = drop (1 + length (o .ts)) p in
-    let n = many v p fs o in
-    let h′ : k < length (o .ts) = omega arith in
-    let fit : total v (o .ts) ≤ length bs = omega (arith, o .fills, length-drop (1 + length (o .ts)) p) in
-    let t : getD (o .ts) k 0 ≡ typeIn p k = ap (λ (l : List ℕ). getD l k 0) (o .types) ∙ getD-take (length (o .ts)) X k 0 h′ ∙ type-at p k in
+stands : (v : Vocoder) (m : Limits) (p : List ℕ) (l n d : ℕ) (fs : List Frame) (k : ℕ) → Framed v m p l n d fs → k < length fs → Stands v p fs k
+stands v m p l n d fs k o h =
+    let x = filled v m p l n d fs o in
+    let ts = o .ts in
+    let types = map typeOf (drop 1 p) in
+    let bs = drop (1 + length ts) p in
+    let h′ : k < length ts = omega (arith, x .many) in
+    let fit : total v ts ≤ length bs = omega (arith, x .fills, length-drop (1 + length ts) p) in
+    let t : getD ts k 0 ≡ typeIn p k = ap (λ (q : List ℕ). getD q k 0) (x .types) ∙ getD-take (length ts) types k 0 h′ ∙ type-at p k in
     record {
-      type = ap (λ (l : List Frame). frameAt l k .type) (o .frames) ∙ cut-type v (o .ts) bs k ∙ t;
-      start = ap (λ (l : List Frame). taken 0 (take k l)) (o .frames) ∙ cut-taken v (o .ts) bs k fit ∙ ap (λ (l : List ℕ). total v (take k l)) (o .types) ∙ ap (total v) (take-take k (length (o .ts)) X (omega arith));
-      octets = ap (λ (l : List Frame). length (frameAt l k .body)) (o .frames) ∙ cut-size v (o .ts) bs k fit h′ ∙ ap (size v) t;
-      entry = omega (arith, o .fills);
+      type = ap (λ (q : List Frame). frameAt q k .type) (x .frames) ∙ cut-type v ts bs k ∙ t;
+      start = ap (λ (q : List Frame). taken 0 (take k q)) (x .frames) ∙ cut-taken v ts bs k fit ∙ ap (λ (q : List ℕ). total v (take k q)) (x .types) ∙ ap (total v) (take-take k (length ts) types (omega arith));
+      octets = ap (λ (q : List Frame). length (frameAt q k .body)) (x .frames) ∙ cut-size v ts bs k fit h′ ∙ ap (size v) t;
+      entry = omega (arith, x .fills, x .many);
     }
 
 -- ---- frame k is asked of a type 1 payload
@@ -177,7 +216,7 @@ shows v m p k l n b d e h = go (readAs v (Interleaved m) p) refl e
     go (packet l′ n′ d′ fs) q x =
         let c : b ≡ length fs = cc in
         let h′ : k < length fs = omega arith in
-        let s = stands v p fs k (framed v m p l′ n′ d′ fs q) h′ in
+        let s = stands v m p l′ n′ d′ fs k (framed v m p l′ n′ d′ fs q) h′ in
         let z : 1 + b + before v p k ≡ 1 + length fs + taken 0 (take k fs) + 0 = omega (arith, s .start) in
         record {
           place = rw q (cc (s .type, s .octets, z, asked (1 + length fs) 0 fs k h′));
@@ -207,7 +246,7 @@ free-laid (Found r) p = (take-all (length p) p (omega arith), omega arith, tt)
 in-laid : (v : Vocoder) (m : Limits) (p : List ℕ) (w : Reading) → readAs v (Interleaved m) p ≡ w → LaidIn p (givenOf (Interleaved m) w)
 unfolding givenOf
 in-laid v m p (refused r) e = tt
-in-laid v m p (packet l n d fs) e = framed-laid v p fs (framed v m p l n d fs e)
+in-laid v m p (packet l n d fs) e = framed-laid v m p l n d fs (framed v m p l n d fs e)
 
 pub laid-as : (v : Vocoder) (f : Form) (p : List ℕ) → LaidIn p (givenAs v f p)
 unfolding readAs givenAs

@@ -17,16 +17,13 @@ use Rattle.frame.specs.declared.Refusal.the-variants.{ReservedType, NotSendable
 use Rattle.recording.specs.Entries.{Recorded, frames, refused, put, frameOf, entries, allowed, entriesIn, entriesOf, cleared}
 use Rattle.recording.specs.declared.Rule.{Rule}
 use Rattle.recording.specs.declared.Rule.the-variants.{Any}
+use Rattle.recording.proofs.Walking.{unput}
 
 pub length-cleared : (v : Vocoder) (n : ℕ) (es : List ℕ) → length (cleared v n es) ≡ length es
 unfolding cleared
 length-cleared v n [] = refl
 length-cleared v (suc n) (x ∷ es) = ap suc (length-cleared v n es)
 length-cleared v zero (e ∷ es) = ap suc (length-cleared v (size v (typeOf e)) es)
-
-unput : (g : Frame) (fs : List Frame) (w : Recorded) → put g w ≡ frames fs → (gs : List Frame) × (fs ≡ g ∷ gs) × (w ≡ frames gs)
-unput g fs (frames gs) e = (gs, cc, refl)
-unput g fs (refused r) e = apart (cc)
 
 clear-entry : (v : Vocoder) (ok : Frame → Bool) (e : ℕ) (es : List ℕ) (fs : List Frame) (good short fine : Bool) → ltb (length es) (size v (typeOf e)) ≡ short →
     ((gs : List Frame) → size v (typeOf e) ≤ length es → entries v ok (size v (typeOf e)) es ≡ frames gs → take (size v (typeOf e)) es ++ entriesOf gs ≡ cleared v (size v (typeOf e)) es) →

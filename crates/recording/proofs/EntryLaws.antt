@@ -18,8 +18,8 @@ use Rattle.frame.specs.declared.Lookup.{Lookup}
 use Rattle.frame.specs.declared.Lookup.the-variants.{Found, Missing}
 use Rattle.frame.proofs.TableLaws.{found-known, found-size}
 use Rattle.frame.proofs.PlaceLaws.{Laid}
-use Rattle.recording.specs.Entries.{Recorded, frames, refused, put, entries, framesIn}
-use Rattle.recording.proofs.Walking.{entryAt, ended, not-known, body-cut, not-allowed, next}
+use Rattle.recording.specs.Entries.{Recorded, frames, refused, entries, framesIn}
+use Rattle.recording.proofs.Walking.{unput, entryAt, ended, not-known, body-cut, not-allowed, next}
 
 -- what stands at a place where the entries begin with a frame
 pub record Entry (v : Vocoder) (ok : Frame → Bool) (p : List ℕ) (at : ℕ) (f : Frame) (fs : List Frame) : Type 0 where
@@ -32,29 +32,27 @@ pub record Entry (v : Vocoder) (ok : Frame → Bool) (p : List ℕ) (at : ℕ) (
   pub allowed : ok f ≡ true
   pub rest : entries v ok 0 (drop (at + 1 + size v (typeOf (getD p at 0))) p) ≡ frames fs
 
-unput : (f g : Frame) (fs : List Frame) (w : Recorded) → put g w ≡ frames (f ∷ fs) → (f ≡ g) × (w ≡ frames fs)
-unput f g fs (frames gs) e = (cc, cc)
-unput f g fs (refused r) e = apart (cc)
-
 pub entry : (v : Vocoder) (ok : Frame → Bool) (p : List ℕ) (at : ℕ) (f : Frame) (fs : List Frame) → entries v ok 0 (drop at p) ≡ frames (f ∷ fs) → Entry v ok p at f fs
 entry v ok p at f fs e = by-place (ltb at (length p)) refl
   where
     by-rule : at < length p → (r : Row) → rowOf v (typeOf (getD p at 0)) ≡ Found r → r .octets ≤ length p - (at + 1) → (b : Bool) → ok (entryAt p at (r .octets)) ≡ b → Entry v ok p at f fs
     by-rule h r k s false g = let q = not-allowed v ok p at h r k s g in apart (cc)
     by-rule h r k s true g =
-        let u = unput f (entryAt p at (r .octets)) fs (entries v ok 0 (drop (at + 1 + r .octets) p)) (sym (next v ok p at h r k s g) ∙ e) in
+        let y = unput (entryAt p at (r .octets)) (f ∷ fs) (entries v ok 0 (drop (at + 1 + r .octets) p)) (sym (next v ok p at h r k s g) ∙ e) in
+        let is : f ≡ entryAt p at (r .octets) = cc (y .1) in
+        let behind : entries v ok 0 (drop (at + 1 + r .octets) p) ≡ frames fs = y .2 ∙ ap frames (cc (y .1)) in
         let z = found-size v (typeOf (getD p at 0)) r k in
         let b : f .body ≡ take (size v (typeOf (getD p at 0))) (drop (at + 1) p) =
-        ap (λ (x : Frame). x .body) (u .0) ∙ ap (λ (i : ℕ). take i (drop (at + 1) p)) (add-sub-cancel-left (at + 1) (r .octets) ∙ sym z) in
+        ap (λ (x : Frame). x .body) is ∙ ap (λ (i : ℕ). take i (drop (at + 1) p)) (add-sub-cancel-left (at + 1) (r .octets) ∙ sym z) in
         record {
           here = h;
-          type = ap (λ (x : Frame). x .type) (u .0);
+          type = ap (λ (x : Frame). x .type) is;
           known = found-known v (typeOf (getD p at 0)) r k;
           body = b;
           octets = ap length b ∙ length-take-le (size v (typeOf (getD p at 0))) (drop (at + 1) p) (omega (arith, length-drop (at + 1) p));
           inside = omega arith;
-          allowed = ap ok (u .0) ∙ g;
-          rest = rw z (u .1);
+          allowed = ap ok is ∙ g;
+          rest = rw z behind;
         }
 
     by-size : at < length p → (r : Row) → rowOf v (typeOf (getD p at 0)) ≡ Found r → (b : Bool) → ltb (length p - (at + 1)) (r .octets) ≡ b → Entry v ok p at f fs

@@ -9,6 +9,7 @@ use native.Mathlib.Omega.{arith}
 use lib.ListN.{length, take, drop, getD, drop-of-length-le, length-drop}
 use lib.Seq.{drop-cons, drop-drop}
 use borrow.Author.Tests.{lt-ltb, le-ltb}
+use Rattle.octets.proofs.Logic.{apart}
 use Rattle.frame.specs.Table.{Vocoder, Frame, rowOf, sendable}
 use Rattle.frame.specs.Entry.{typeOf}
 use Rattle.frame.specs.declared.Row.{Row}
@@ -28,6 +29,11 @@ pub from-put : (n : ℕ) (f : Frame) (w : Recorded) → countedFrom n (put f w) 
 unfolding countedFrom
 from-put n f (frames fs) = ap counted.Frames (omega arith)
 from-put n f (refused r) = refl
+
+-- a frame put before others
+pub unput : (g : Frame) (fs : List Frame) (w : Recorded) → put g w ≡ frames fs → (gs : List Frame) × (fs ≡ g ∷ gs) × (w ≡ frames gs)
+unput g fs (frames gs) e = (gs, cc, refl)
+unput g fs (refused r) e = apart (cc)
 
 -- to skip octets is to drop them
 pub skips : (v : Vocoder) (ok : Frame → Bool) (n : ℕ) (es : List ℕ) → entries v ok n es ≡ entries v ok 0 (drop n es)

@@ -1,0 +1,250 @@
+-- Write after read of packets, and the header-free writer's round trips, over any frame table. Assumes nothing.
+use Prim.Native.Nat.{ℕ, _+_, _*_, _-_, _≤_, _<_}
+use mathlib.Core.Path.{_≡_, refl, sym, ap, ap₂, subst, _∙_}
+use mathlib.Core.List.{List, [], _∷_, _++_}
+use mathlib.Core.Bool.{Bool, true, false, cond, _&&_}
+use native.Mathlib.Omega.{arith}
+use lib.Dec.{T, eqb, leb, ltb, ltb→lt, eqb→eq}
+use lib.ListN.{length, take, drop, getD, length-append}
+use lib.Seq.{take-at, drop-at, take-add, take-all}
+use borrow.Author.Tests.{eq-eqb, ne-eqb, eqb-true, eqb-false, le-leb, leb-true, leb-false, le-ltb, lt-ltb, ltb-true}
+use Rattle.octets.proofs.Logic.{apart, both-true, both-hold}
+use Rattle.frame.specs.Table.{Vocoder, Frame, rowOf, rowWith, rowOfSize, known, size, lowBits, sendable, sendableAs}
+use Rattle.frame.specs.Entry.{typeOf, dOf, more}
+use Rattle.frame.specs.Agreed.{inRange}
+use Rattle.frame.specs.Outputs.{octets, refused}
+use Rattle.frame.specs.declared.Limits.{Limits}
+use Rattle.frame.specs.declared.Row.{Row}
+use Rattle.frame.specs.declared.Lookup.{Lookup}
+use Rattle.frame.specs.declared.Lookup.the-variants.{Found, Missing}
+use Rattle.frame.specs.declared.Form.the-variants.{HeaderFree, Interleaved}
+use Rattle.frame.specs.declared.Refusal.the-variants.{TooManyFrames, ReservedType}
+use Rattle.frame.proofs.TableLaws.{found-known, found-size}
+use Rattle.payload.specs.Payload.{packet, Table, table, fault, put, toc, total, cut, readAs}
+use Rattle.payload.specs.Payload as payload
+use Rattle.payload.proofs.Laying.{framed}
+use Rattle.payload.proofs.Checks.{length-cut}
+use Rattle.recording.specs.Entries.{Recorded, frames, entries, allowed, entriesIn, framesIn, entriesOf}
+use Rattle.recording.specs.Entries as entry
+use Rattle.recording.specs.declared.Rule.the-variants as rule
+use Rattle.recording.proofs.Walking.{skips}
+use Rattle.recording.proofs.Clearing.{read-any}
+use Rattle.recording.proofs.EntryLaws.{entry as inverted}
+use Rattle.packet.specs.Packet.{typesOf, bodiesOf, follows, tocOf, packed, groupIn}
+use Rattle.packet.specs.Writing.{packetMade, packetOfGroup, headerFreeMade, oneBody}
+use Rattle.packet.proofs.Choosing.{within-group}
+use Rattle.claims.specs.Packets.{PacketWriteAfterRead, AllSendable, EveryD, AreOctets, narrow, kindIs, tells, HeaderFreeReadAfterWrite, HeaderFreeWriteAfterRead, EvrcPasses}
+use Rattle.claims.proofs.PacketTrips.{FitOne, Fit}
+
+-- ---- the table of contents that is written is the one that was read
+abbrev Back : List ℕ → Table → Type 0
+Back es (table ts d rest) = EveryD d (length ts) es → (tocOf d ts ++ rest ≡ es) × (0 < length ts) × (d ≤ 1)
+Back es (fault r) = Unit {0}
+
+another : (ts : List ℕ) → 0 < length ts → follows ts ≡ 128
+another [] h = absurd (omega arith)
+another (t ∷ ts) h = refl
+
+put-back : (x : ℕ) (es : List ℕ) (w : Table) → x < 256 → 128 ≤ x → Back es w → Back (x ∷ es) (put (typeOf x) w)
+put-back x es (table ts d rest) a b h =
+    λ q.
+    let i = h (q .1) in
+    let e : follows ts + d * 64 + typeOf x ≡ x = omega (arith, another ts (i .1), q .0) in
+    (ap₂ (λ (y : ℕ) (l : List ℕ). y ∷ l) e (i .0), omega arith, i .2)
+put-back x es (fault r) a b h = tt
+
+entry-back : (x : ℕ) (es : List ℕ) (w : Table) (full good on : Bool) → x < 256 → more x ≡ on → Back es w → Back (x ∷ es) (cond full (fault TooManyFrames) (cond good (cond on (put (typeOf x) w) (table (typeOf x ∷ []) (dOf x) es)) (fault ReservedType)))
+entry-back x es w true good on a e h = tt
+entry-back x es w false false on a e h = tt
+entry-back x es w false true true a e h = put-back x es w a (leb-true 128 x e) h
+entry-back x es w false true false a e h =
+    let b = leb-false 128 x e in
+    λ q. let y : 0 + dOf x * 64 + typeOf x ≡ x = omega arith in (ap (λ (z : ℕ). z ∷ es) y, omega arith, omega arith)
+
+toc-again : (v : Vocoder) (max at : ℕ) (es : List ℕ) → AreOctets es → Back es (toc v max at es)
+unfolding toc
+toc-again v max at [] o = tt
+toc-again v max at (x ∷ es) o =
+    entry-back x es (toc v max (at + 1) es) (leb max at) (known v (typeOf x)) (more x) (o .0) refl (toc-again v max (at + 1) es (o .1))
+
+types-cut : (v : Vocoder) (ts bs : List ℕ) → typesOf (cut v ts bs) ≡ ts
+types-cut v [] bs = refl
+types-cut v (t ∷ ts) bs = ap (λ (l : List ℕ). t ∷ l) (types-cut v ts (drop (size v t) bs))
+
+bodies-cut : (v : Vocoder) (ts bs : List ℕ) → bodiesOf (cut v ts bs) ≡ take (total v ts) bs
+bodies-cut v [] bs = refl
+bodies-cut v (t ∷ ts) bs =
+    ap (λ (l : List ℕ). take (size v t) bs ++ l) (bodies-cut v ts (drop (size v t) bs)) ∙ sym (take-add (size v t) (total v ts) bs)
+
+-- a payload that was read, packed again
+record Again (v : Vocoder) (m : Limits) (p : List ℕ) (l n d : ℕ) (gs : List Frame) : Type 0 where
+  same : packed l n d gs ≡ p
+  range : inRange m ≡ true
+  bit : d ≤ 1
+  index : n ≤ l
+  short : l ≤ m .«max_l»
+  some : 1 ≤ length gs
+  few : length gs ≤ m .«max_b»
+
+octets-behind : (p : List ℕ) (x : ℕ) (es : List ℕ) → p ≡ x ∷ es → AreOctets p → AreOctets es
+octets-behind p x es e o = subst AreOctets e o .1
+
+again : (v : Vocoder) (m : Limits) (p : List ℕ) (l n d : ℕ) (gs : List Frame) → readAs v (Interleaved m) p ≡ packet l n d gs → AreOctets p → getD p 0 0 < 64 → EveryD d (length gs) (drop 1 p) → Again v m p l n d gs
+again v m p l n d gs e o h q =
+    let x = framed v m p l n d gs e in
+    let w = x .whole in
+    let c : length gs ≡ length (x .ts) = ap length (x .frames) ∙ length-cut v (x .ts) (x .rest) in
+    let q′ : EveryD d (length (x .ts)) (x .es) = subst (λ (k : ℕ). EveryD d k (x .es)) c (subst (λ (r : List ℕ). EveryD d (length gs) (drop 1 r)) (x .split) q) in
+    let b = subst (Back (x .es)) (x .toc-is) (toc-again v (m .«max_b») 0 (x .es) (octets-behind p (x .head) (x .es) (x .split) o)) q′ in
+    let t : typesOf gs ≡ x .ts = ap typesOf (x .frames) ∙ types-cut v (x .ts) (x .rest) in
+    let u : bodiesOf gs ≡ x .rest = ap bodiesOf (x .frames) ∙ bodies-cut v (x .ts) (x .rest) ∙ take-all (total v (x .ts)) (x .rest) (omega (arith, x .full)) in
+    let h′ : x .head < 64 = subst (λ (r : List ℕ). getD r 0 0 < 64) (x .split) h in
+    let y : l * 8 + n ≡ x .head = omega (arith, x .l-is, x .n-is) in
+    record {
+      same = ap₂ (λ (a : ℕ) (r : List ℕ). a ∷ r) y (ap₂ (λ (a r : List ℕ). tocOf d a ++ r) t u ∙ b .0) ∙ sym (x .split);
+      range = x .range;
+      bit = b .2;
+      index = omega (arith, x .index, x .l-is, x .n-is);
+      short = omega (arith, x .short, x .l-is);
+      some = omega (arith, w .some);
+      few = omega (arith, w .few);
+    }
+
+-- ---- frames as entries are read as those frames, under a rule that allows them
+abbrev AllOk : (Frame → Bool) → List Frame → Type 0
+AllOk ok [] = Unit {0}
+AllOk ok (f ∷ fs) = (ok f ≡ true) × AllOk ok fs
+
+entries-written : (v : Vocoder) (ok : Frame → Bool) (fs : List Frame) → Fit v fs → AllOk ok fs → entries v ok 0 (entriesOf fs) ≡ frames fs
+unfolding entries
+entries-written v ok [] w o = refl
+entries-written v ok (f ∷ fs) w o =
+    let b = f .body in
+    let r = entriesOf fs in
+    let s = size v (f .type) in
+    let i : f .type < 64 = w .0 .small in
+    let t : typeOf (f .type) ≡ f .type = omega arith in
+    let l : s ≤ length (b ++ r) = omega (arith, w .0 .octets, length-append b r) in
+    let k : take s (b ++ r) ≡ b = take-at b r s (w .0 .octets) in
+    let j : entries v ok s (b ++ r) ≡ frames fs = skips v ok s (b ++ r) ∙ ap (entries v ok 0) (drop-at b r s (w .0 .octets)) ∙ entries-written v ok fs (w .1) (o .1) in
+    let a : ok (record { type = f .type; body = f .body }) ≡ true = o .0 in
+    simp (t, w .0 .known, le-ltb _ _ l, k, a) (ap (entry.put f) j)
+
+-- what a sendable frame is
+record SendableRow (v : Vocoder) (f : Frame) : Type 0 where
+  r : Row
+  row : rowOf v (f .type) ≡ Found r
+  long : length (f .body) ≡ r .octets
+  sent : r .sent ≡ true
+
+sendable-row : (v : Vocoder) (f : Frame) → sendable v (f .type) (f .body) ≡ true → SendableRow v f
+sendable-row v f e = go (rowOf v (f .type)) refl e
+  where
+    go : (l : Lookup) → rowOf v (f .type) ≡ l → sendableAs l (f .body) ≡ true → SendableRow v f
+    go Missing q x = apart (cc)
+    go (Found r) q x =
+        let a = both-true (eqb (length (f .body)) (r .octets) && eqb (lowBits (getD (f .body) (r .octets - 1) 0) (r .spare)) 0) (r .sent) x in
+        let b = both-true (eqb (length (f .body)) (r .octets)) (eqb (lowBits (getD (f .body) (r .octets - 1) 0) (r .spare)) 0) (a .0) in
+        record { r = r; row = q; long = eqb-true (length (f .body)) (r .octets) (b .0); sent = a .1 }
+
+narrow-type : (v : Vocoder) (t : ℕ) (r : Row) → T (narrow v) → rowOf v t ≡ Found r → t < 64
+unfolding rowOf
+narrow-type [] t r h e = apart (cc)
+narrow-type (x ∷ v) t r h e = go (eqb t (x .kind)) refl e (narrow-type v t r (both-hold (ltb (x .kind) 64) (narrow v) h .1))
+  where
+    go : (b : Bool) → eqb t (x .kind) ≡ b → cond b (Found x) (rowOf v t) ≡ Found r → (rowOf v t ≡ Found r → t < 64) → t < 64
+    go true q y i = omega (arith, eqb-true t (x .kind) q, ltb→lt (x .kind) 64 (both-hold (ltb (x .kind) 64) (narrow v) h .0))
+    go false q y i = i y
+
+fit-sendable : (v : Vocoder) (f : Frame) → T (narrow v) → sendable v (f .type) (f .body) ≡ true → FitOne v f
+fit-sendable v f h e =
+    let s = sendable-row v f e in
+    record { known = found-known v (f .type) (s .r) (s .row); small = narrow-type v (f .type) (s .r) h (s .row); octets = s .long ∙ sym (found-size v (f .type) (s .r) (s .row)) }
+
+all-fit : (v : Vocoder) (fs : List Frame) → T (narrow v) → AllSendable v fs → Fit v fs
+all-fit v [] h a = tt
+all-fit v (f ∷ fs) h a = (fit-sendable v f h (a .0), all-fit v fs h (a .1))
+
+all-ok : (v : Vocoder) (fs : List Frame) → AllSendable v fs → AllOk (allowed v rule.Sendable) fs
+unfolding allowed
+all-ok v [] a = tt
+all-ok v (f ∷ fs) a = (a .0, all-ok v fs (a .1))
+
+-- ---- write after read
+pub packet-write-after-read : PacketWriteAfterRead
+unfolding PacketWriteAfterRead packetMade packetOfGroup
+packet-write-after-read v h m p l n d gs e o z q fs g =
+    let x = again v m p l n d gs e o z q in
+    let y : entriesIn v rule.Sendable (entriesOf fs) ≡ frames fs = entries-written v (allowed v rule.Sendable) fs (all-fit v fs h (g .sendable)) (all-ok v fs (g .sendable)) in
+    simp (x .range, le-leb d 1 (x .bit))
+    (within-group v m l n (length gs) d (entriesOf fs) (x .index) (x .short) (x .some) (x .few)
+    ∙ rw (y, eq-eqb (length fs) ((l + 1) * length gs) (g .many), g .ours) (ap octets (x .same)))
+
+-- ---- the header-free writer
+free-ok : (v : Vocoder) (f : Frame) → allowed v rule.HeaderFree f ≡ true → (0 < length (f .body)) × (sendable v (f .type) (f .body) ≡ true)
+unfolding allowed
+free-ok v f e = let a = both-true (ltb 0 (length (f .body))) (sendable v (f .type) (f .body)) e in (ltb-true 0 (length (f .body)) (a .0), a .1)
+
+-- the row of a type that may be sent is told by its size
+record Told (v : Vocoder) (n t : ℕ) : Type 0 where
+  r : Row
+  row : rowWith v n ≡ Found r
+  kind : r .kind ≡ t
+
+told-kind : (v : Vocoder) (n k : ℕ) (l : Lookup) → rowWith v n ≡ l → T (kindIs l k) → Told v n k
+told-kind v n k Missing q h = absurd h
+told-kind v n k (Found r) q h = record { r = r; row = q; kind = eqb→eq (r .kind) k h }
+
+told : (v u : Vocoder) (t : ℕ) (r : Row) → T (tells v u) → rowOf u t ≡ Found r → r .sent ≡ true → 0 < r .octets → Told v (r .octets) t
+unfolding rowOf
+told v [] t r h e s o = apart (cc)
+told v (x ∷ u) t r h e s o = go (eqb t (x .kind)) refl e (λ y. told v u t r (both-hold (cond (x .sent && ltb 0 (x .octets)) (kindIs (rowWith v (x .octets)) (x .kind)) true) (tells v u) h .1) y s o)
+  where
+    go : (b : Bool) → eqb t (x .kind) ≡ b → cond b (Found x) (rowOf u t) ≡ Found r → (rowOf u t ≡ Found r → Told v (r .octets) t) → Told v (r .octets) t
+    go false q y i = i y
+    go true q y i =
+        let same : x ≡ r = cc in
+        let k : x .kind ≡ t = sym (eqb-true t (x .kind) q) in
+        let s′ : x .sent ≡ true = ap (λ (z : Row). z .sent) same ∙ s in
+        let o′ : 0 < x .octets = omega (arith, ap (λ (z : Row). z .octets) same) in
+        let a : T (kindIs (rowWith v (x .octets)) (x .kind)) = simp (s′, lt-ltb 0 (x .octets) o′) at (both-hold (cond (x .sent && ltb 0 (x .octets)) (kindIs (rowWith v (x .octets)) (x .kind)) true) (tells v u) h .0) in
+        subst (λ (j : ℕ). Told v (r .octets) j) k (subst (λ (z : Row). Told v (z .octets) (x .kind)) same (told-kind v (x .octets) (x .kind) (rowWith v (x .octets)) refl a))
+
+pub header-free-read-after-write : HeaderFreeReadAfterWrite
+unfolding HeaderFreeReadAfterWrite headerFreeMade oneBody readAs payload.oneBody framesIn
+header-free-read-after-write v h es w e = go (entriesIn v rule.HeaderFree es) refl e
+  where
+    go : (u : Recorded) → entriesIn v rule.HeaderFree es ≡ u → oneBody u ≡ octets w → readAs v HeaderFree w ≡ packet 0 0 0 (groupIn v es)
+    go (entry.refused r) q x = apart (cc)
+    go (frames []) q x = apart (cc)
+    go (frames (f ∷ k ∷ fs)) q x = apart (cc)
+    go (frames (f ∷ [])) q x =
+        let b : f .body ≡ w = cc in
+        let i = inverted v (allowed v rule.HeaderFree) es 0 f [] q in
+        let a = free-ok v f (i .allowed) in
+        let s = sendable-row v f (a .1) in
+        let t = told v v (f .type) (s .r) h (s .row) (s .sent) (omega (arith, a .0, s .long)) in
+        let n : length w ≡ s .r .octets = ap length (sym b) ∙ s .long in
+        let z : length w ≡ 0 → ⊥ = λ y. absurd (omega (arith, a .0, s .long)) in
+        let g : groupIn v es ≡ f ∷ [] = ap framesIn (read-any v rule.HeaderFree es (f ∷ []) q) in
+        let row : rowOfSize v (length w) ≡ Found (t .r) = rw (ne-eqb (length w) 0 z) (ap (rowWith v) n ∙ t .row) in
+        rw (row, g) (ap₂ (λ (c : ℕ) (y : List ℕ). packet 0 0 0 (record { type = c; body = y } ∷ [])) (t .kind) (sym b))
+
+pub header-free-write-after-read : HeaderFreeWriteAfterRead
+unfolding HeaderFreeWriteAfterRead headerFreeMade oneBody readAs payload.oneBody allowed
+header-free-write-after-read v h p l n d f e s = go (eqb (length p) 0) refl e
+  where
+    here : (k : Lookup) → 0 < length p → payload.oneBody k p ≡ packet l n d (f ∷ []) → headerFreeMade v HeaderFree (entriesOf (f ∷ [])) ≡ octets p
+    here Missing z x = apart (cc)
+    here (Found r) z x =
+        let b : p ≡ f .body = cc in
+        let y : entriesIn v rule.HeaderFree (entriesOf (f ∷ [])) ≡ frames (f ∷ []) = entries-written v (allowed v rule.HeaderFree) (f ∷ []) (fit-sendable v f h s, tt) (simp (lt-ltb 0 (length (f .body)) (omega (arith, ap length b)), s), tt) in
+        rw y (ap octets (sym b))
+
+    go : (c : Bool) → eqb (length p) 0 ≡ c → payload.oneBody (cond c Missing (rowWith v (length p))) p ≡ packet l n d (f ∷ []) → headerFreeMade v HeaderFree (entriesOf (f ∷ [])) ≡ octets p
+    go true q x = apart (cc)
+    go false q x = here (rowWith v (length p)) (let z = eqb-false (length p) 0 q in omega arith) x
+
+pub evrc-passes : EvrcPasses
+unfolding rowWith
+evrc-passes = record { narrows = tt; tellsApart = tt }

@@ -174,6 +174,14 @@ static uint8_t make_call(const struct request *r)
     case 5:
         takes(r, 0, 3);
         return lv_recording_write(lent(r, 0), len(r, 0), lent(r, 1), len(r, 1), out_size(r, 2));
+    case 6:
+        takes(r, 7, 3);
+        return lv_packet_write(u8(r, 0), u8(r, 1), u8(r, 2), u8(r, 3), u8(r, 4), u8(r, 5), u8(r, 6), lent(r, 0),
+                               len(r, 0), lent(r, 1), len(r, 1), out_size(r, 2));
+    case 7:
+        takes(r, 3, 3);
+        return lv_packet_write_header_free(u8(r, 0), u8(r, 1), u8(r, 2), lent(r, 0), len(r, 0), lent(r, 1), len(r, 1),
+                                           out_size(r, 2));
     }
     fail("malformed request: no such call");
     return 0;

@@ -17,6 +17,8 @@ const PAYLOAD_FRAME: u8 = 2;
 const RECORDING_READ: u8 = 3;
 const RECORDING_FRAME: u8 = 4;
 const RECORDING_WRITE: u8 = 5;
+const PACKET_WRITE: u8 = 6;
+const PACKET_WRITE_HEADER_FREE: u8 = 7;
 
 /// The most octets of a fence.
 const FENCE: usize = 16;
@@ -32,9 +34,10 @@ pub struct Agreed {
     pub max_b: u8,
 }
 
-/// The out-parameters of `lv_payload_read`.
+/// The numbers of a packet: the out-parameters of `lv_payload_read`, and what
+/// `lv_packet_write` is given.
 #[derive(Clone, Copy, Debug, PartialEq, Eq)]
-pub struct ReadOut {
+pub struct Head {
     pub l: u8,
     pub n: u8,
     pub b: u8,
@@ -82,7 +85,7 @@ impl<T> Told<T> {
 }
 
 /// Asks for `lv_payload_read`, with these out-parameters before the call.
-pub fn payload_read(agreed: Agreed, payload: &[u8], before: ReadOut, rng: &mut Rng) -> Request {
+pub fn payload_read(agreed: Agreed, payload: &[u8], before: Head, rng: &mut Rng) -> Request {
     Request {
         call: PAYLOAD_READ,
         scalars: agreed.scalars().to_vec(),
@@ -97,9 +100,9 @@ pub fn payload_read(agreed: Agreed, payload: &[u8], before: ReadOut, rng: &mut R
 }
 
 /// What `lv_payload_read` did.
-pub fn payload_read_told(request: &Request, response: &Response) -> Told<ReadOut> {
+pub fn payload_read_told(request: &Request, response: &Response) -> Told<Head> {
     let made = Made { request, response };
-    made.told(ReadOut { l: made.u8(1), n: made.u8(2), b: made.u8(3), d: made.u8(4) })
+    made.told(Head { l: made.u8(1), n: made.u8(2), b: made.u8(3), d: made.u8(4) })
 }
 
 /// Asks for `lv_payload_frame`, with these out-parameters before the call.
@@ -157,6 +160,35 @@ pub fn recording_write(entries: &[u8], before: &WriteOut, rng: &mut Rng) -> Requ
     }
 }
 
+/// Asks for `lv_packet_write`, with this output before the call.
+pub fn packet_write(
+    agreed: Agreed,
+    head: Head,
+    entries: &[u8],
+    before: &WriteOut,
+    rng: &mut Rng,
+) -> Request {
+    Request {
+        call: PACKET_WRITE,
+        scalars: [&agreed.scalars()[..], &head.octets().map(u64::from)].concat(),
+        buffers: write_buffers(entries, before, rng),
+    }
+}
+
+/// Asks for `lv_packet_write_header_free`, with this output before the call.
+pub fn packet_write_header_free(
+    agreed: Agreed,
+    entries: &[u8],
+    before: &WriteOut,
+    rng: &mut Rng,
+) -> Request {
+    Request {
+        call: PACKET_WRITE_HEADER_FREE,
+        scalars: agreed.scalars().to_vec(),
+        buffers: write_buffers(entries, before, rng),
+    }
+}
+
 /// What a writer did.
 pub fn write_told(request: &Request, response: &Response) -> Told<WriteOut> {
     let made = Made { request, response };
@@ -180,10 +212,18 @@ fn write_buffers(entries: &[u8], before: &WriteOut, rng: &mut Rng) -> Vec<Buffer
 
 // Out-parameters that no answer has. An output has any octets.
 
-impl ReadOut {
-    pub fn no_answer(rng: &mut Rng) -> ReadOut {
+impl Head {
+    /// What a header-free payload is read as, beside its frame.
+    pub const ALONE: Head = Head { l: 0, n: 0, b: 1, d: 0 };
+
+    /// L, N, B and D.
+    pub fn octets(self) -> [u8; 4] {
+        [self.l, self.n, self.b, self.d]
+    }
+
+    pub fn no_answer(rng: &mut Rng) -> Head {
         let mut octet = || no_octet(rng);
-        ReadOut { l: octet(), n: octet(), b: octet(), d: octet() }
+        Head { l: octet(), n: octet(), b: octet(), d: octet() }
     }
 }
 
@@ -289,14 +329,16 @@ pub fn changes_are_noticed(rng: &mut Rng) -> bool {
     let agreed = Agreed { form: 1, max_l: 5, max_b: 10 };
     let octets = [5, 6, 7];
     (0..20).all(|_| {
-        let (read, frame) = (ReadOut::no_answer(rng), FrameOut::no_answer(rng));
+        let (head, frame) = (Head::no_answer(rng), FrameOut::no_answer(rng));
         let (count, output) = (CountOut::no_answer(rng), WriteOut::no_answer(4, rng));
         let requests = [
-            payload_read(agreed, &octets, read, rng),
+            payload_read(agreed, &octets, head, rng),
             payload_frame(agreed, &octets, 0, frame, rng),
             recording_read(&octets, count, rng),
             recording_frame(&octets, 0, frame, rng),
             recording_write(&octets, &output, rng),
+            packet_write(agreed, head, &octets, &output, rng),
+            packet_write_header_free(agreed, &octets, &output, rng),
         ];
         requests.iter().all(noticed)
     })
@@ -329,7 +371,7 @@ impl Display for Agreed {
     }
 }
 
-impl Display for ReadOut {
+impl Display for Head {
     fn fmt(&self, f: &mut Formatter) -> fmt::Result {
         write!(f, "L {} N {} B {} D {}", self.l, self.n, self.b, self.d)
     }

@@ -4,8 +4,8 @@
 //! `paper` says what ought to come out, `calls` what the library does, and
 //! `inputs` what both are given. `trial` tries one case on all sides, and
 //! `comparison` many. Each subject has a module that runs its comparison:
-//! `payloads`, the reading of payloads, and `recordings`, their reading and
-//! writing.
+//! `payloads`, the reading of payloads, `recordings`, their reading and writing,
+//! and `packets`, their writing.
 //!
 //! The library is called by another program, `serve.c`. Compile that for the
 //! library's machine, with `include/` to find the header and `liblanding.a`
@@ -23,6 +23,7 @@ mod calls;
 mod comparison;
 mod inputs;
 mod library;
+mod packets;
 mod paper;
 mod payloads;
 mod reached;
@@ -80,5 +81,6 @@ fn compare(
     let mut library = Library::start(command, words)?;
     payloads::compare(seed, &mut library, report)?;
     recordings::compare(seed, &mut library, report)?;
+    packets::compare(seed, &mut library, report)?;
     library.end()
 }

@@ -1,7 +1,9 @@
 //! Inputs for the comparison, made from a seed: the same seed, the same inputs.
 
+mod agreed;
 pub mod frames;
 mod octets;
+pub mod packets;
 pub mod payloads;
 pub mod recordings;
 

@@ -4,10 +4,11 @@
 //! Where a payload is built to mean something, its case says what; this is
 //! worked out while building, not by reading.
 
+use super::agreed::{any_maxima, header_free, interleaved, out_of_range};
 use super::frames::{reserved_entry, size_of, TYPES};
 use super::octets::{damage, likely, neighbours_of};
 use super::{of_kind, Kinds, Rng};
-use crate::calls::{Agreed, FrameOut, ReadOut};
+use crate::calls::{Agreed, FrameOut, Head};
 use crate::trial::{Contents, ReadCase};
 
 /// A payload to read under an agreed form.
@@ -19,8 +20,8 @@ pub struct Payload {
 pub type Case = ReadCase<Payload>;
 
 /// One frame with L, N and D at 0.
-fn alone(kind: u8, start: usize, size: usize) -> Contents<ReadOut> {
-    Contents::listed(ReadOut { l: 0, n: 0, b: 1, d: 0 }, &[(kind, start, size)])
+fn alone(kind: u8, start: usize, size: usize) -> Contents<Head> {
+    Contents::listed(Head::ALONE, &[(kind, start, size)])
 }
 
 /// The longest of the long payloads.
@@ -46,7 +47,7 @@ const KINDS: &Kinds<Case> = &[
     ("damaged", damaged),
     ("damaged", damaged),
     ("read in another form", another_form),
-    ("any maxima", any_maxima),
+    ("any maxima", other_maxima),
     ("likely octets", likely_octets),
     ("short random octets", short_random),
     ("random octets", random),
@@ -88,7 +89,7 @@ impl Draft {
     }
 
     /// What it means if it is good.
-    fn contents(&self) -> Contents<ReadOut> {
+    fn contents(&self) -> Contents<Head> {
         let mut start = 1 + self.table.len();
         let mut frames = Vec::new();
         for &entry in &self.table {
@@ -96,7 +97,7 @@ impl Draft {
             frames.push(FrameOut { kind: entry & 0x3F, start, size });
             start += size;
         }
-        let read = ReadOut {
+        let read = Head {
             l: self.first >> 3 & 7,
             n: self.first & 7,
             b: self.table.len() as u8,
@@ -133,25 +134,6 @@ fn any_tail(rng: &mut Rng, agreed: Agreed) -> Vec<u8> {
             let len = rng.between(1, 40);
             rng.octets(len)
         }
-    }
-}
-
-/// Interleaved, maxima in range, often the greatest.
-fn interleaved(rng: &mut Rng) -> Agreed {
-    let (least_l, least_b) = rng.pick(&[(0, 1), (7, 10), (0, 10), (7, 1)]);
-    Agreed { form: 1, max_l: rng.small(least_l, 7), max_b: rng.small(least_b, 10) }
-}
-
-/// Header-free, with maxima that say nothing.
-fn header_free(rng: &mut Rng) -> Agreed {
-    Agreed { form: 0, max_l: rng.octet(), max_b: rng.octet() }
-}
-
-/// A maximum, in range or just out of it or anywhere.
-fn any_maximum(rng: &mut Rng) -> u8 {
-    match rng.between(0, 3) {
-        0 => rng.octet(),
-        _ => rng.small(0, 12),
     }
 }
 
@@ -261,22 +243,13 @@ fn aimed_9(rng: &mut Rng) -> Case {
 
 /// A maximum out of range, whatever the payload.
 fn aimed_21_maxima(rng: &mut Rng) -> Case {
-    let inside = interleaved(rng);
     let payload = any_payload(rng);
-    let bad_l = rng.pick(&[8, 9, 15, 16, 64, 128, 255]);
-    let bad_b = rng.pick(&[0, 11, 12, 16, 80, 128, 255]);
-    let (max_l, max_b) = match rng.between(0, 2) {
-        0 => (bad_l, inside.max_b),
-        1 => (inside.max_l, bad_b),
-        _ => (bad_l, bad_b),
-    };
-    open(Agreed { form: 1, max_l, max_b }, payload).refused(21)
+    open(out_of_range(rng), payload).refused(21)
 }
 
 /// No such form, whatever the payload and the maxima.
 fn aimed_21_form(rng: &mut Rng) -> Case {
-    let form = rng.small(2, 255);
-    let agreed = Agreed { form, max_l: any_maximum(rng), max_b: any_maximum(rng) };
+    let agreed = Agreed { form: rng.small(2, 255), ..any_maxima(rng) };
     open(agreed, any_payload(rng)).refused(21)
 }
 
@@ -306,10 +279,9 @@ fn another_form(rng: &mut Rng) -> Case {
 }
 
 /// Good for some maxima, read under any.
-fn any_maxima(rng: &mut Rng) -> Case {
+fn other_maxima(rng: &mut Rng) -> Case {
     let payload = good_interleaved(rng).input.octets;
-    let agreed = Agreed { form: 1, max_l: any_maximum(rng), max_b: any_maximum(rng) };
-    open(agreed, payload)
+    open(any_maxima(rng), payload)
 }
 
 /// Few octets, of those that stand in good tables.
@@ -327,11 +299,7 @@ fn short_random(rng: &mut Rng) -> Case {
 fn random(rng: &mut Rng) -> Case {
     let len = rng.between(0, 300);
     let payload = rng.octets(len);
-    let agreed = Agreed {
-        form: rng.pick(&[0, 1, 1, 1, 2, 255]),
-        max_l: any_maximum(rng),
-        max_b: any_maximum(rng),
-    };
+    let agreed = Agreed { form: rng.pick(&[0, 1, 1, 1, 2, 255]), ..any_maxima(rng) };
     open(agreed, payload)
 }
 

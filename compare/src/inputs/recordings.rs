@@ -2,7 +2,9 @@
 //!
 //! What they mean is worked out while building, not by reading.
 
-use super::frames::{entries, octets_of, reserved_entry, size_of, Entry, TYPES};
+use super::frames::{
+    any_tail, cut_behind, entries, few, octets_of, reserved_behind, size_of, Entry, TYPES,
+};
 use super::octets::{damage, likely, neighbours_of};
 use super::{of_kind, Kinds, Rng};
 use crate::calls::{CountOut, FrameOut};
@@ -137,12 +139,6 @@ fn open(octets: Vec<u8>) -> ToRead {
 
 // Entries.
 
-/// A few good entries, or none.
-pub fn few(rng: &mut Rng) -> Vec<Entry> {
-    let count = rng.between(0, 12);
-    entries(rng, count)
-}
-
 fn good(rng: &mut Rng) -> Draft {
     Draft::good(few(rng))
 }
@@ -154,39 +150,13 @@ fn none(_: &mut Rng) -> Draft {
 /// A reserved type, with anything behind.
 fn aimed_5(rng: &mut Rng) -> Draft {
     let before = few(rng);
-    with_reserved(rng, &before)
+    Draft::refused(reserved_behind(rng, &before), 5)
 }
 
 /// A body cut.
 fn aimed_19(rng: &mut Rng) -> Draft {
     let before = few(rng);
-    with_cut(rng, &before)
-}
-
-fn with_reserved(rng: &mut Rng, before: &[Entry]) -> Draft {
-    let tail = any_tail(rng);
-    let octets = [&octets_of(before), &[reserved_entry(rng)][..], &tail].concat();
-    Draft::refused(octets, 5)
-}
-
-fn with_cut(rng: &mut Rng, before: &[Entry]) -> Draft {
-    let octet = rng.small(0, 3) << 6 | rng.pick(&TYPES[1..4]).0;
-    let kept = rng.between(0, size_of(octet) - 1);
-    let octets = [&octets_of(before), &[octet][..], &rng.octets(kept)].concat();
-    Draft::refused(octets, 19)
-}
-
-/// Octets that may follow a fault: they change nothing about it.
-fn any_tail(rng: &mut Rng) -> Vec<u8> {
-    match rng.between(0, 3) {
-        0 => Vec::new(),
-        1 => octets_of(&few(rng)),
-        2 => aimed_19(rng).octets,
-        _ => {
-            let len = rng.between(1, 40);
-            rng.octets(len)
-        }
-    }
+    Draft::refused(cut_behind(rng, &before), 19)
 }
 
 fn damaged_entries(rng: &mut Rng) -> Draft {
@@ -225,8 +195,8 @@ fn huge(rng: &mut Rng) -> Draft {
 fn many(rng: &mut Rng, count: usize) -> Draft {
     let entries = entries(rng, count);
     match rng.between(0, 3) {
-        0 => with_reserved(rng, &entries),
-        1 => with_cut(rng, &entries),
+        0 => Draft::refused(reserved_behind(rng, &entries), 5),
+        1 => Draft::refused(cut_behind(rng, &entries), 19),
         _ => Draft::good(entries),
     }
 }

@@ -27,6 +27,21 @@ impl Limits {
             Err(21)
         }
     }
+
+    /// 2 if N is above L, then 3 if L is above the agreed maximum.
+    pub fn judge_place(self, l: u8, n: u8, slip: Slip) -> Result<(), u8> {
+        let max_l = match slip {
+            Slip::MaximumLOffByOne => self.max_l + 1,
+            _ => self.max_l,
+        };
+        let two = if n > l { Err(2) } else { Ok(()) };
+        let three = if l > max_l { Err(3) } else { Ok(()) };
+        match slip {
+            Slip::NAboveLNotChecked => three,
+            Slip::ThreeBeforeTwo => three.and(two),
+            _ => two.and(three),
+        }
+    }
 }
 
 impl Form {

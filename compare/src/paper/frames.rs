@@ -82,10 +82,28 @@ impl Frame {
         &octets[self.start..self.end().min(octets.len())]
     }
 
-    /// Whether this is a Rate 1 frame with one of its 5 spare bits set: "the
-    /// low 5 bits of its octet 22 are zero when sent".
-    pub fn has_spare(&self, octets: &[u8]) -> bool {
-        self.kind == FrameType::Full && self.body(octets).get(21).is_some_and(|o| o & 0x1F != 0)
+    /// The 5 spare bits of a Rate 1 frame: "the low 5 bits of its octet 22 are
+    /// zero when sent". Other frames have none.
+    pub fn spare_bits(&self, octets: &[u8]) -> u8 {
+        match self.kind {
+            FrameType::Full => self.body(octets).get(21).map_or(0, |octet| octet % 32),
+            _ => 0,
+        }
+    }
+
+    /// "A frame is sendable if its type is 0, 1, 3 or 4 and, for type 4, those 5
+    /// bits are zero."
+    pub fn sendable(&self, octets: &[u8], slip: Slip) -> bool {
+        let spare = match slip {
+            Slip::SpareBitsUnchecked => 0,
+            Slip::FourSpareBits => self.spare_bits(octets) % 16,
+            _ => self.spare_bits(octets),
+        };
+        match self.kind {
+            FrameType::Erasure => slip == Slip::ErasureSendable,
+            FrameType::Blank => slip != Slip::BlankNotSendable,
+            _ => spare == 0,
+        }
     }
 }
 
@@ -93,7 +111,7 @@ impl Frame {
 /// lies", an empty one where it would lie; and "our readers keep [spare] bits
 /// as they came".
 pub fn given(mut frames: Vec<Frame>, octets: &[u8], slip: Slip) -> Result<Vec<Frame>, u8> {
-    if slip == Slip::SpareBitsRefused && frames.iter().any(|frame| frame.has_spare(octets)) {
+    if slip == Slip::SpareBitsRefused && frames.iter().any(|frame| frame.spare_bits(octets) > 0) {
         return Err(17);
     }
     if slip == Slip::EmptyBodyStartsAtZero {

@@ -8,6 +8,7 @@
 mod entries;
 mod form;
 pub mod frames;
+pub mod packets;
 pub mod payload;
 pub mod recordings;
 mod room;

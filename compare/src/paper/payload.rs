@@ -68,24 +68,13 @@ fn read_interleaved(limits: Limits, payload: &[u8], slip: Slip) -> Result<Readin
 }
 
 /// L and N. "Octet 0 is RR x 64 + L x 8 + N. RR is [...] ignored when read."
-/// 2 if N is above L, then 3 if L is above the agreed maximum.
 fn read_interleaving(octet: u8, limits: Limits, slip: Slip) -> Result<(u8, u8), u8> {
     let n = octet % 8;
     let l = match slip {
         Slip::RrNotIgnored => octet / 8,
         _ => octet / 8 % 8,
     };
-    let max_l = match slip {
-        Slip::MaximumLOffByOne => limits.max_l + 1,
-        _ => limits.max_l,
-    };
-    let two = if n > l { Err(2) } else { Ok(()) };
-    let three = if l > max_l { Err(3) } else { Ok(()) };
-    match slip {
-        Slip::NAboveLNotChecked => three?,
-        Slip::ThreeBeforeTwo => three.and(two)?,
-        _ => two.and(three)?,
-    }
+    limits.judge_place(l, n, slip)?;
     Ok((l, n))
 }
 

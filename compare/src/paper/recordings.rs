@@ -94,7 +94,7 @@ fn entry_written(octet: u8, kind: FrameType, slip: Slip) -> u8 {
 /// This writer has no 17: what is not sendable is recorded all the same.
 fn recordable(given: &[u8], frame: &Frame, slip: Slip) -> Result<(), u8> {
     match slip {
-        Slip::RecordingSpareBitsRefused if frame.has_spare(given) => Err(17),
+        Slip::RecordingSpareBitsRefused if frame.spare_bits(given) > 0 => Err(17),
         Slip::RecordingErasureRefused if frame.kind == FrameType::Erasure => Err(17),
         _ => Ok(()),
     }

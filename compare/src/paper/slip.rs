@@ -70,13 +70,17 @@ slips! {
         WrittenIsRoom => "a writer reports the output's length as written",
     }
 
-    /// In the reading of payloads.
-    PAYLOAD {
-        RrNotIgnored => "RR is read as part of L",
+    /// In L, N and B.
+    NUMBERS {
         NAboveLNotChecked => "N above L is accepted",
         ThreeBeforeTwo => "3 comes before 2",
         MaximumLOffByOne => "L one above the maximum is accepted",
-        MaximumBOffByOne => "one entry past the maximum is accepted",
+        MaximumBOffByOne => "B one above the maximum is accepted",
+    }
+
+    /// In the reading of payloads.
+    PAYLOAD {
+        RrNotIgnored => "RR is read as part of L",
         SixBeforeFour => "6 comes before 4",
         FiveBeforeSix => "5 comes before 6",
         WholeTableFirst => "4 is judged over the whole table before any entry",
@@ -106,5 +110,39 @@ slips! {
         FifteenBeforeWalk => "15 comes before 5 and 19",
         RecordingSpareBitsRefused => "a recording refuses spare bits with 17",
         RecordingErasureRefused => "a recording refuses an erasure with 17",
+    }
+
+    /// In the writing of packets.
+    PACKET {
+        HeaderFreeFormTaken => "the interleaved writer takes the header-free form",
+        InterleavedFormTaken => "the header-free writer takes the interleaved form",
+        DAboveOneMasked => "D above 1 is cut to its lowest bit",
+        DJudgedLate => "D above 1 is noticed after 2, 3 and 6",
+        SixBeforeTwo => "6 comes before 2 and 3",
+        BZeroTaken => "B of 0 is accepted",
+        SixAfterWalk => "6 comes after the walk",
+        SpareBitsUnchecked => "spare bits are not judged",
+        FourSpareBits => "only 4 of the 5 spare bits are judged",
+        ErasureSendable => "an erasure is sendable",
+        BlankNotSendable => "a Blank is not sendable",
+        OnlyOwnFramesJudged => "other packets' frames may be any",
+        SeventeenAfterWalk => "5 and 19 are judged over all entries before 17",
+        SeventeenCountBeforeWalk => "the number of entries is judged before the entries",
+        WalkStopsAtGroup => "entries past the group are not judged",
+        MoreEntriesTaken => "entries past the group are accepted",
+        GroupOfOnePacket => "the group has B entries",
+        FifteenBeforeSeventeen => "15 comes before 17",
+        FrameNTimesBPlusK => "packet N has the frames N x B + k",
+        LAndNSwapped => "octet 0 has N before L",
+        RrWritten => "RR is written as 3",
+        FSetInLast => "F is set in the last entry too",
+        FNeverSet => "F is set in no entry",
+        DOnlyInFirst => "D is set in the first entry only",
+        DOnlyInLast => "D is set in the last entry only",
+        DAsGiven => "D is written as the input has it",
+        BodiesAmongEntries => "each body follows its entry",
+        BlankAllowedHeaderFree => "the header-free writer takes a Blank",
+        HeaderFreeOfNone => "the header-free writer takes no entry",
+        HeaderFreeEntryWritten => "the header-free writer writes the entry octet too",
     }
 }

@@ -13,7 +13,7 @@ use crate::trial::{Case, ReadCase};
 use reached::Reached;
 
 /// The slips to catch.
-const SLIPS: &[&[Slip]] = &[Slip::FORM, Slip::TYPES, Slip::READER, Slip::PAYLOAD];
+const SLIPS: &[&[Slip]] = &[Slip::FORM, Slip::NUMBERS, Slip::TYPES, Slip::READER, Slip::PAYLOAD];
 
 /// How many seeded payloads are compared.
 const SEEDED: usize = 60_000;

@@ -2,7 +2,7 @@
 
 use std::collections::BTreeSet;
 
-use crate::calls::{Agreed, FrameOut, ReadOut, Told};
+use crate::calls::{Agreed, FrameOut, Head, Told};
 use crate::reached::{demand, Answers, Column};
 use crate::report::Report;
 use crate::trial::Out;
@@ -40,7 +40,7 @@ impl Reached {
     }
 
     /// Counts what a payload showed.
-    pub fn count(&mut self, agreed: Agreed, found: &[Told<Out<ReadOut>>]) {
+    pub fn count(&mut self, agreed: Agreed, found: &[Told<Out<Head>>]) {
         let column = match agreed.form {
             1 => 0,
             0 => 2,
@@ -52,9 +52,9 @@ impl Reached {
         }
     }
 
-    fn see(&mut self, agreed: Agreed, out: Out<ReadOut>) {
+    fn see(&mut self, agreed: Agreed, out: Out<Head>) {
         match (agreed.form, out) {
-            (1, Out::Read(ReadOut { l, n, b, d })) => {
+            (1, Out::Read(Head { l, n, b, d })) => {
                 self.places.insert((l, n));
                 self.bundles.insert(b);
                 self.reduced.insert(d);

@@ -2,7 +2,7 @@
 //! and some more. What they state was worked out by hand, and both the library
 //! and the paper's reading have to give it.
 
-use crate::calls::{Agreed, ReadOut};
+use crate::calls::{Agreed, Head};
 use crate::inputs::hex;
 use crate::inputs::payloads::{Case, Payload};
 use crate::trial::Contents;
@@ -87,6 +87,6 @@ impl Case {
 
     /// Accepted: L, N, B, D; then type, start and size of each frame.
     fn gives(self, [l, n, b, d]: [u8; 4], frames: &[(u8, usize, usize)]) -> Case {
-        self.accepted(Contents::listed(ReadOut { l, n, b, d }, frames))
+        self.accepted(Contents::listed(Head { l, n, b, d }, frames))
     }
 }

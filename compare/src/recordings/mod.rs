@@ -7,6 +7,7 @@ mod trial;
 mod trips;
 
 use crate::comparison::Comparison;
+use crate::inputs::frames::few;
 use crate::inputs::recordings;
 use crate::library::{Fault, Library};
 use crate::paper::Slip;
@@ -56,7 +57,7 @@ fn compare_writing(comparison: &mut Comparison) -> Result<(), Fault> {
     comparison.seeded(SEEDED, recordings::seeded_to_write, |_, found| reached.count(found))?;
     reached.report(comparison.report);
     comparison.report_slips("recording writing");
-    comparison.law("recordings written and read", TRIPS, recordings::few, |sent, side| {
+    comparison.law("recordings written and read", TRIPS, few, |sent, side| {
         trips::read_after_write(sent, side)
     })
 }

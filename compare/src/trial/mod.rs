@@ -9,10 +9,10 @@ pub use writers::{Writable, WriteCase};
 
 use std::fmt::{self, Display, Formatter};
 
-use crate::calls::Told;
+use crate::calls::{Agreed, Told};
 use crate::inputs::Rng;
 use crate::library::{Request, Response};
-use crate::paper::Slip;
+use crate::paper::{Form, Limits, Slip};
 use crate::report::Report;
 
 /// An input, the calls that can be made on it, and what they ought to do.
@@ -126,4 +126,10 @@ impl<C: Case> Display for Difference<'_, C> {
             None => Ok(()),
         }
     }
+}
+
+/// The agreed form as document 01 has it.
+pub fn form(agreed: Agreed, slip: Slip) -> Result<Form, u8> {
+    let Agreed { form, max_l, max_b } = agreed;
+    Form::agreed(form, Limits { max_l, max_b }, slip)
 }

@@ -40,6 +40,10 @@ pub record GroupOf (v : Vocoder) (l n : ℕ) (gs fs : List Frame) : Type 0 where
   pub many : length fs ≡ (l + 1) * length gs
   pub ours : packetFrames l n (length gs) fs ≡ gs
 
+-- octet 0 is RR x 64 + L x 8 + N: "RR was 0"
+abbrev pub RRZero : List ℕ → Type 0
+RRZero p = getD p 0 0 < 64
+
 -- D of the first entries is d: "all D were equal"
 abbrev pub EveryD : ℕ → ℕ → List ℕ → Type 0
 EveryD d zero es = Unit {0}
@@ -55,7 +59,7 @@ AreOctets (x ∷ xs) = (x < 256) × AreOctets xs
 unfoldable pub PacketWriteAfterRead : Type 0
 PacketWriteAfterRead =
     (v : Vocoder) → T (narrow v) → (m : Limits) (p : List ℕ) (l n d : ℕ) (gs : List Frame) →
-    readAs v (Interleaved m) p ≡ packet l n d gs → AreOctets p → getD p 0 0 < 64 → EveryD d (length gs) (drop 1 p) →
+    readAs v (Interleaved m) p ≡ packet l n d gs → AreOctets p → RRZero p → EveryD d (length gs) (drop 1 p) →
     (fs : List Frame) → GroupOf v l n gs fs → packetMade v (Interleaved m) l n (length gs) d (entriesOf fs) ≡ octets p
 
 -- a type that may be sent and has a body is "known by the length"

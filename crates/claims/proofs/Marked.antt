@@ -8,4 +8,4 @@ use Rattle.claims.specs.Examples.{MarkedExamples}
 
 pub marked-examples : MarkedExamples
 unfolding rowOf rowWith locatedOf bodyOf toc bodies interleaved oneBody readAs givenOf givenAs
-marked-examples = record { asSaid = refl; anyRate1 = λ p h. rw h }
+marked-examples = record { asSaid = refl; anyRate1 = λ p h. rw h; bases = (refl, refl) }

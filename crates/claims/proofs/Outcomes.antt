@@ -37,4 +37,6 @@ determined = record {
   packetWriteHeaderFree = λ κs a x y s t p q. cc (p .answer, p .output, q .answer, q .output);
   lvPacketWrite = λ κs a x y s t p q. p ∙ sym q;
   lvPacketWriteHeaderFree = λ κs a x y s t p q. p ∙ sym q;
+  holdingBaseSequence = λ κs a x y s t p q. p ∙ sym q;
+  holdingBaseTimestamp = λ κs a x y s t p q. p ∙ sym q;
 }

@@ -73,6 +73,10 @@ use Rattle.landing.proofs.lv_packet_write.Kinds as landing-lv-packet-write-kind
 use Rattle.landing.proofs.lv_packet_write.Reads as landing-lv-packet-write
 use Rattle.landing.proofs.lv_packet_write_header_free.Kinds as landing-lv-packet-write-header-free-kinds
 use Rattle.landing.proofs.lv_packet_write_header_free.Reads as landing-lv-packet-write-header-free
+use Rattle.holding.proofs.base_sequence.Kinds as holding-base-sequence-kinds
+use Rattle.holding.proofs.base_sequence.Reads as holding-base-sequence
+use Rattle.holding.proofs.base_timestamp.Kinds as holding-base-timestamp-kinds
+use Rattle.holding.proofs.base_timestamp.Reads as holding-base-timestamp
 
 -- what a contract allows fixes the answer
 unfoldable pub AnswerFixed : (n : ℕ) (ps : List (PK n)) (r : RK n) → Out n ps r → Type 0
@@ -121,3 +125,5 @@ pub record Determined : Type 0 where
   pub packetWriteHeaderFree : OutcomeFixed 2 packet-write-header-free-kinds.ps packet-write-header-free-kinds.r packet-write-header-free.Post (Written × List ℕ) (λ κs x s. (x, now (s .1 .1 .0)))
   pub lvPacketWrite : OutcomeFixed 3 landing-lv-packet-write-kinds.ps landing-lv-packet-write-kinds.r landing-lv-packet-write.Post WriteTold (λ κs x s. writeTold x (now (s .1 .1 .1 .1 .1 .1 .1 .1 .1 .0)) (now (s .1 .1 .1 .1 .1 .1 .1 .1 .0)))
   pub lvPacketWriteHeaderFree : OutcomeFixed 3 landing-lv-packet-write-header-free-kinds.ps landing-lv-packet-write-header-free-kinds.r landing-lv-packet-write-header-free.Post WriteTold (λ κs x s. writeTold x (now (s .1 .1 .1 .1 .1 .0)) (now (s .1 .1 .1 .1 .0)))
+  pub holdingBaseSequence : AnswerFixed 0 holding-base-sequence-kinds.ps holding-base-sequence-kinds.r holding-base-sequence.Post
+  pub holdingBaseTimestamp : AnswerFixed 0 holding-base-timestamp-kinds.ps holding-base-timestamp-kinds.r holding-base-timestamp.Post

@@ -1,4 +1,4 @@
--- Document 01, "Marked examples": P1 to P10 and P14, as rows under a single claim.
+-- Document 01, "Marked examples": P1 to P10, P13 and P14, under a single claim.
 use Prim.Native.Nat.{ℕ, zero, suc}
 use mathlib.Core.Path.{_≡_}
 use mathlib.Core.List.{List, [], _∷_, _++_, map}
@@ -11,6 +11,7 @@ use Rattle.frame.specs.declared.Form.{Form}
 use Rattle.frame.specs.declared.Form.the-variants.{HeaderFree, Interleaved}
 use Rattle.frame.specs.declared.Located.{Located}
 use Rattle.frame.specs.declared.Located.the-variants.{At}
+use Rattle.holding.specs.Bases.{baseSequence, baseTimestamp}
 use Rattle.payload.specs.Payload.{Reading, packet, refused, readAs}
 use Rattle.payload.specs.Shown.{givenAs}
 
@@ -66,7 +67,9 @@ rows =
     record { form = HeaderFree; octets = replicate 5 0x55; says = number 9 } ∷
     []
 
--- each row's octets are read as the row says; and (P14) so are any 22 octets
+-- each row's octets are read as the row says; (P13) sequence 0000, timestamp 0, N 1 has the bases FFFF and FFFFFF60; and (P14) any 22
+-- octets are a frame of type 4
 pub record MarkedExamples : Type 0 where
   pub asSaid : map (λ (r : Row). said (r .form) (r .octets)) rows ≡ map (λ (r : Row). r .says) rows
   pub anyRate1 : (p : List ℕ) → length p ≡ 22 → readAs evrc HeaderFree p ≡ packet 0 0 0 (record { type = 4; body = p } ∷ [])
+  pub bases : (baseSequence 0 1 ≡ 0xFFFF) × (baseTimestamp 0 1 ≡ 0xFFFFFF60)

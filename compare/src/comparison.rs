@@ -10,7 +10,7 @@ use crate::trips::{Side, Stop};
 /// A comparison under way.
 pub struct Comparison<'a> {
     pub rng: Rng,
-    pub library: &'a mut Library,
+    library: &'a mut Library,
     pub report: &'a mut Report,
     caught: Vec<Caught>,
 }

@@ -2,10 +2,10 @@
 //! document 01.
 //!
 //! `paper` says what ought to come out, `calls` what the library does, and
-//! `inputs` what both are given. `trial` tries one case on all sides, and
-//! `comparison` many. Each subject has a module that runs its comparison:
-//! `payloads`, the reading of payloads, `recordings`, their reading and writing,
-//! and `packets`, their writing.
+//! `inputs` what both are given. `trial` tries one case on all sides, `trips`
+//! gives to one call what came out of another, and `comparison` does both many
+//! times. Each subject has a module that runs its comparison: `payloads` (read),
+//! `recordings` (read and written) and `packets` (written).
 //!
 //! The library is called by another program, `serve.c`. Compile that for the
 //! library's machine, with `include/` to find the header and `liblanding.a`

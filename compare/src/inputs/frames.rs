@@ -101,6 +101,12 @@ pub fn octets_of(entries: &[Entry]) -> Vec<u8> {
     entries.iter().flat_map(octets).collect()
 }
 
+/// Every entry octet, with every number of octets behind it up to one more than
+/// the longest body has.
+pub fn every_entry() -> impl Iterator<Item = (u8, usize)> {
+    (0..=255).flat_map(|octet| (0..=23).map(move |behind| (octet, behind)))
+}
+
 /// Entries, then one of a reserved type, then anything.
 pub fn reserved_behind(rng: &mut Rng, before: &[Entry]) -> Vec<u8> {
     let octet = reserved_entry(rng);

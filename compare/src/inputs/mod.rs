@@ -48,6 +48,11 @@ pub fn hex(text: &str) -> Vec<u8> {
     text.split_whitespace().map(octet).collect()
 }
 
+/// So many octets FF, as document 01 writes them.
+pub fn ff(count: usize) -> String {
+    "FF ".repeat(count)
+}
+
 /// A small generator of pseudo-random numbers (splitmix64).
 pub struct Rng(u64);
 

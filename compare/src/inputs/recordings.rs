@@ -2,9 +2,8 @@
 //!
 //! What they mean is worked out while building, not by reading.
 
-use super::frames::{
-    any_tail, cut_behind, entries, few, octets_of, reserved_behind, size_of, Entry, TYPES,
-};
+use super::frames::{any_tail, cut_behind, entries, every_entry, few, octets_of};
+use super::frames::{reserved_behind, size_of, Entry, TYPES};
 use super::octets::{damage, likely, neighbours_of};
 use super::{of_kind, Kinds, Rng};
 use crate::calls::{CountOut, FrameOut};
@@ -275,13 +274,8 @@ pub fn every_opening() -> impl Iterator<Item = ToRead> {
     })
 }
 
-/// Every entry octet, with every number of zero octets behind it up to one more
-/// than the longest body. A zero octet that is in no body is a Blank.
-fn every_entry() -> impl Iterator<Item = Draft> {
-    (0..=255).flat_map(|octet: u8| (0..=23).map(move |behind| one_entry(octet, behind)))
-}
-
-fn one_entry(octet: u8, behind: usize) -> Draft {
+/// An entry with zero octets behind it. One that is in no body is a Blank.
+fn one_entry((octet, behind): (u8, usize)) -> Draft {
     let octets = [&[octet][..], &vec![0; behind]].concat();
     let Some(&(_, size)) = TYPES.iter().find(|row| row.0 == octet & 0x3F) else {
         return Draft::refused(octets, 5);
@@ -306,13 +300,13 @@ fn every_count() -> impl Iterator<Item = Draft> {
 
 /// The families of entries, as recordings.
 pub fn entries_to_read() -> impl Iterator<Item = ToRead> {
-    let entries = every_entry().map(|draft| draft.to_read("every entry"));
+    let entries = every_entry().map(|entry| one_entry(entry).to_read("every entry"));
     entries.chain(every_count().map(|draft| draft.to_read("every count")))
 }
 
 /// The families of entries, for a writer.
 pub fn entries_to_write() -> impl Iterator<Item = ToWrite> {
-    let entries = every_entry().map(|draft| draft.to_write("every entry"));
+    let entries = every_entry().map(|entry| one_entry(entry).to_write("every entry"));
     entries.chain(every_count().map(|draft| draft.to_write("every count")))
 }
 

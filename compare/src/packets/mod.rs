@@ -7,7 +7,7 @@ mod trial;
 mod trips;
 
 use crate::comparison::Comparison;
-use crate::inputs::packets::{self, Group, Received};
+use crate::inputs::packets::{families, seeded, Group, Received};
 use crate::library::{Fault, Library};
 use crate::paper::Slip;
 use crate::report::Report;
@@ -19,7 +19,7 @@ const SLIPS: &[&[Slip]] =
     &[Slip::FORM, Slip::NUMBERS, Slip::TYPES, Slip::ENTRIES, Slip::WRITER, Slip::PACKET];
 
 /// How many seeded packets are compared.
-const SEEDED: usize = 20_000;
+const SEEDED: usize = 12_000;
 
 /// How many groups have all neighbours of their entries compared.
 const BASES: usize = 12;
@@ -34,7 +34,7 @@ pub fn compare(seed: u64, library: &mut Library, report: &mut Report) -> Result<
     comparison.rows(rows::header_free())?;
     compare_families(&mut comparison)?;
     let mut reached = Reached::new();
-    comparison.seeded(SEEDED, packets::seeded, |trial, found| {
+    comparison.seeded(SEEDED, seeded, |trial, found| {
         reached.count(&trial.case().input, found);
     })?;
     reached.report(comparison.report);
@@ -45,15 +45,16 @@ pub fn compare(seed: u64, library: &mut Library, report: &mut Report) -> Result<
 
 /// Compares whole families, of which no member is left out.
 fn compare_families(comparison: &mut Comparison) -> Result<(), Fault> {
-    comparison.family(packets::every_entry(), WriteCase::calls)?;
+    let entries = families::every_entry().chain(families::every_count());
+    comparison.family(entries, WriteCase::calls)?;
     let rng = &mut comparison.rng;
-    let families = [
-        packets::every_fault(rng),
-        packets::every_group(rng),
-        packets::every_number(rng),
-        packets::every_form(rng),
-        packets::every_last_octet(rng),
-        packets::neighbours(rng, BASES),
+    let built = [
+        families::every_fault(rng),
+        families::every_group(rng),
+        families::every_number(rng),
+        families::every_form(rng),
+        families::every_last_octet(rng),
+        families::neighbours(rng, BASES),
     ];
-    comparison.family(families.into_iter().flatten(), WriteCase::calls)
+    comparison.family(built.into_iter().flatten(), WriteCase::calls)
 }

@@ -3,8 +3,8 @@
 //! have to give it. Where a row is accepted, less room answers 15.
 
 use crate::calls::{Agreed, Head};
-use crate::inputs::hex;
 use crate::inputs::packets::{Case, Packet};
+use crate::inputs::{ff, hex};
 
 /// The frames of the whole case, in time order (document 01, "Capture program").
 const WHOLE: &str = "01 11 11 01 22 22 01 33 33 01 44 44";
@@ -50,7 +50,7 @@ pub fn interleaved() -> Vec<Case> {
         row("body cut past the group", [0, 0, 1, 0], "00 01 11").refused(19),
         // The numbers at and past their ends.
         row("N above L", [0, 1, 1, 0], "00").refused(2),
-        row("N above L, a number of two octets' bits", [0, 255, 1, 0], "00").refused(2),
+        row("N 255", [0, 255, 1, 0], "00").refused(2),
         row("L above the maximum", [6, 0, 1, 0], "00 00 00 00 00 00 00").refused(3),
         row("L 255", [255, 255, 1, 0], "00").maxima(7, 10).refused(3),
         row("B 0", [0, 0, 0, 0], "").refused(6),
@@ -113,11 +113,6 @@ fn alone(name: &'static str, entries: &str) -> Case {
 /// A Rate 1 entry with this last octet.
 fn full(last: &str) -> String {
     format!("04 {}{last} ", ff(21))
-}
-
-/// So many octets FF.
-fn ff(count: usize) -> String {
-    "FF ".repeat(count)
 }
 
 impl Case {

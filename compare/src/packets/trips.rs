@@ -27,11 +27,11 @@ pub fn read_after_write(sent: &Group, side: &mut Side) -> Result<(), Stop> {
 /// equal and every frame is sendable; the other packets of the group may be any
 /// sendable frames."
 pub fn write_after_read(sent: &Received, side: &mut Side) -> Result<(), Stop> {
-    let Received { packet, payload, others } = sent;
+    let Received { payload, interleaved, others } = sent;
     let (head, own) = side.read(payload)?;
     let mut group = others.clone();
     put(&own, head, &mut group);
-    let (agreed, head) = (packet.agreed, packet.head.and(Some(head)));
+    let (agreed, head) = (payload.agreed, interleaved.then_some(head));
     let written = side.write(&Packet { agreed, head, entries: octets_of(&group) })?;
     same(&payload.octets, &written)
 }

@@ -14,8 +14,9 @@ pub struct Packet {
     pub d: u8,
 }
 
-/// Writes packet N of the group whose frames are given: 21, 2, 3, 6; then 5,
-/// 19, 17; then 15. Maxima out of range do not come here, see [`Form::agreed`].
+/// Writes packet N of the group whose frames are given. Checks, in this order:
+/// 21 (maxima out of range do not come here, see [`Form::agreed`]), 2, 3, 6; the
+/// whole input for 5, 19, 17; 15.
 pub fn write(
     form: Form,
     packet: Packet,
@@ -27,9 +28,7 @@ pub fn write(
     judge_numbers(packet, limits, slip)?;
     let judge = |frame: &Frame| sendable(frame, given, slip);
     let payload = |frames: &[Frame]| payload(packet, given, frames, slip);
-    if slip == Slip::FifteenBeforeSeventeen {
-        fitting(payload(&frames_unjudged(given, slip)?), room, slip)?;
-    }
+    judge_room_early(given, payload, room, slip)?;
     let frames = match slip {
         Slip::OnlyOwnFramesJudged => own_frames_judged(packet, given, judge, slip),
         _ => frames_judged(given, packet.group(slip), judge, slip),
@@ -57,9 +56,7 @@ pub fn write_header_free(form: Form, given: &[u8], room: usize, slip: Slip) -> R
         _ => sendable(frame, given, slip),
     };
     let payload = |frames: &[Frame]| body_alone(given, frames, slip);
-    if slip == Slip::FifteenBeforeSeventeen {
-        fitting(payload(&frames_unjudged(given, slip)?), room, slip)?;
-    }
+    judge_room_early(given, payload, room, slip)?;
     let frames = match slip {
         Slip::HeaderFreeOfNone if given.is_empty() => Vec::new(),
         _ => frames_judged(given, 1, judge, slip)?,
@@ -97,6 +94,19 @@ fn judge_b(b: u8, limits: Limits, slip: Slip) -> Result<(), u8> {
     };
     if past || (b == 0 && slip != Slip::BZeroTaken) {
         return Err(6);
+    }
+    Ok(())
+}
+
+/// 15 before 17: with one slip alone.
+fn judge_room_early(
+    given: &[u8],
+    payload: impl Fn(&[Frame]) -> Vec<u8>,
+    room: usize,
+    slip: Slip,
+) -> Result<(), u8> {
+    if slip == Slip::FifteenBeforeSeventeen {
+        fitting(payload(&frames_unjudged(given, slip)?), room, slip)?;
     }
     Ok(())
 }

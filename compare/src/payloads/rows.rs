@@ -3,8 +3,8 @@
 //! and the paper's reading have to give it.
 
 use crate::calls::{Agreed, Head};
-use crate::inputs::hex;
 use crate::inputs::payloads::{Case, Payload};
+use crate::inputs::{ff, hex};
 use crate::trial::Contents;
 
 /// The marked examples P1 to P10 and P14 (document 01, "Marked examples").
@@ -33,7 +33,7 @@ pub fn further() -> Vec<Case> {
     vec![
         // Header-free: the other lengths, and lengths beside the right ones.
         row("length 2", "C0 00").header_free().gives([0, 0, 1, 0], &[(1, 0, 2)]),
-        row("length 10", &"FF ".repeat(10)).header_free().gives([0, 0, 1, 0], &[(3, 0, 10)]),
+        row("length 10", &ff(10)).header_free().gives([0, 0, 1, 0], &[(3, 0, 10)]),
         row("length 21", &"00 ".repeat(21)).header_free().refused(9),
         row("length 23", &"00 ".repeat(23)).header_free().refused(9),
         // "A reader given maxima out of range answers 21 first."
@@ -56,7 +56,7 @@ pub fn further() -> Vec<Case> {
         row("D in the last entry", "00 80 40").gives([0, 0, 2, 1], &[(0, 3, 0), (0, 3, 0)]),
         row("D in the first entry", "00 C0 00").gives([0, 0, 2, 0], &[(0, 3, 0), (0, 3, 0)]),
         // All types, RR 2, spare bits set; an empty body starts where it would lie.
-        row("all types", &format!("BF 8E 84 80 83 81 40 {}", "FF ".repeat(34))).maxima(7, 6).gives(
+        row("all types", &format!("BF 8E 84 80 83 81 40 {}", ff(34))).maxima(7, 6).gives(
             [7, 7, 6, 1],
             &[(14, 7, 0), (4, 7, 22), (0, 29, 0), (3, 29, 10), (1, 39, 2), (0, 41, 0)],
         ),

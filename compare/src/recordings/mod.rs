@@ -19,7 +19,7 @@ const READ_SLIPS: &[&[Slip]] = &[Slip::TYPES, Slip::ENTRIES, Slip::READER, Slip:
 const WRITE_SLIPS: &[&[Slip]] = &[Slip::TYPES, Slip::ENTRIES, Slip::WRITER, Slip::RECORDING_WRITE];
 
 /// How many seeded recordings are read, and how many seeded entries written.
-const SEEDED: usize = 15_000;
+const SEEDED: usize = 12_000;
 
 /// How many good recordings and entries have all their neighbours compared.
 const BASES: usize = 24;

@@ -3,8 +3,8 @@
 //! give it.
 
 use crate::calls::CountOut;
-use crate::inputs::hex;
 use crate::inputs::recordings::{Entries, Recording, ToRead, ToWrite};
+use crate::inputs::{ff, hex};
 use crate::trial::Contents;
 
 /// The opening octets.
@@ -104,11 +104,6 @@ fn many_blanks(count: usize) -> ToRead {
 /// A row of entries to write.
 fn writes(name: &'static str, entries: &str) -> ToWrite {
     ToWrite::open(name, Entries(hex(entries)))
-}
-
-/// So many octets FF.
-fn ff(count: usize) -> String {
-    "FF ".repeat(count)
 }
 
 impl ToRead {

@@ -35,3 +35,19 @@ fn any_maximum(rng: &mut Rng) -> u8 {
         _ => rng.small(0, 12),
     }
 }
+
+/// A row that names another agreed form than its first.
+pub trait Named: Sized {
+    fn agreed(&mut self) -> &mut Agreed;
+
+    fn maxima(mut self, max_l: u8, max_b: u8) -> Self {
+        let form = self.agreed().form;
+        *self.agreed() = Agreed { form, max_l, max_b };
+        self
+    }
+
+    fn form(mut self, form: u8) -> Self {
+        self.agreed().form = form;
+        self
+    }
+}

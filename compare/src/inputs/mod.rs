@@ -1,6 +1,6 @@
 //! Inputs for the comparison, made from a seed: the same seed, the same inputs.
 
-mod agreed;
+pub mod agreed;
 pub mod frames;
 mod octets;
 pub mod packets;

@@ -3,6 +3,7 @@
 //! have to give it. Where a row is accepted, less room answers 15.
 
 use crate::calls::{Agreed, Head};
+use crate::inputs::agreed::Named;
 use crate::inputs::packets::{Case, Packet};
 use crate::inputs::{ff, hex};
 
@@ -115,17 +116,13 @@ fn full(last: &str) -> String {
     format!("04 {}{last} ", ff(21))
 }
 
+impl Named for Case {
+    fn agreed(&mut self) -> &mut Agreed {
+        &mut self.input.agreed
+    }
+}
+
 impl Case {
-    fn maxima(mut self, max_l: u8, max_b: u8) -> Case {
-        self.input.agreed = Agreed { max_l, max_b, ..self.input.agreed };
-        self
-    }
-
-    fn form(mut self, form: u8) -> Case {
-        self.input.agreed.form = form;
-        self
-    }
-
     /// Accepted: the payload.
     fn gives(self, payload: &str) -> Case {
         self.accepted(hex(payload))

@@ -3,6 +3,7 @@
 //! and the paper's reading have to give it.
 
 use crate::calls::{Agreed, Head};
+use crate::inputs::agreed::Named;
 use crate::inputs::payloads::{Case, Payload};
 use crate::inputs::{ff, hex};
 use crate::trial::Contents;
@@ -70,17 +71,13 @@ fn row(name: &'static str, payload: &str) -> Case {
     Case::open(name, Payload { agreed, octets: hex(payload) })
 }
 
+impl Named for Case {
+    fn agreed(&mut self) -> &mut Agreed {
+        &mut self.input.agreed
+    }
+}
+
 impl Case {
-    fn maxima(mut self, max_l: u8, max_b: u8) -> Case {
-        self.input.agreed = Agreed { max_l, max_b, ..self.input.agreed };
-        self
-    }
-
-    fn form(mut self, form: u8) -> Case {
-        self.input.agreed.form = form;
-        self
-    }
-
     fn header_free(self) -> Case {
         self.form(0)
     }

@@ -23,7 +23,8 @@ fn entry_of(l: usize, n: usize, b: usize, k: usize, entries: &[u8]) -> usize
     requires { ⌜ Picked evrc l n b (now entries) × (k < b) ⌝ }
     ensures { λ r. ⌜ EntryAt evrc (now (entries .entry)) r (frameAt (groupIn evrc (now (entries .entry))) (placeOf l n k)) ⌝ }
 {
-    recording::seek(entries, k * (l + 1) + n)
+    let place = k * (l + 1) + n;
+    recording::seek(entries, place)
 }
 
 // The octets of the bodies of packet n's first b frames.
@@ -176,12 +177,12 @@ fn write_body(entries: &[u8], out: &mut [u8]) -> Written
             if count != 1 {
                 return Written::Refused(Refusal::NotSendable);
             }
-            let size = entries.len() - 1;
-            if out.len() < size {
+            let body = entries.len() - 1;
+            if out.len() < body {
                 return Written::Refused(Refusal::NoRoom);
             }
             octets::copy(out, 0, &entries[1..]);
-            Written::Octets(size)
+            Written::Octets(body)
         }
     }
 }

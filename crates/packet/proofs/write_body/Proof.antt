@@ -24,8 +24,8 @@ enum-known-held-2 c = search needs
 returns : tie.Need-returns
 returns c = writes-refusal _ _ _ (body-count _ _ (sym (c .before .before .held2 .given .1) ∙ c .before .before .before .before .count .ensures) (c .if1 .taken))
 
-sub-size : tie.Need-sub-size
-sub-size c = one-made evrc _ _ (sym (c .before .before .held2 .given .1) ∙ c .before .before .before .before .count .ensures) (c .if1 .left) .some
+sub-body : tie.Need-sub-body
+sub-body c = one-made evrc _ _ (sym (c .before .before .held2 .given .1) ∙ c .before .before .before .before .count .ensures) (c .if1 .left) .some
 
 returns-2 : tie.Need-returns-2
 returns-2 c = writes-no-room _ _ _ (one-made evrc _ _ (sym (c .before .before .before .held2 .given .1) ∙ c .before .before .before .before .before .count .ensures) (c .before .if1 .left) .made) (omega (arith, length-drop 1 (now (c .before .before .before .before .before .before .before .before .args .entries))))
@@ -59,7 +59,7 @@ write-body-spec =
     enum-known-held
     enum-known-held-2
     returns
-    sub-size
+    sub-body
     returns-2
     sub-copy
     part-copy-start

@@ -67,8 +67,8 @@ write-table-requires c κs =
 write-bodies-requires : tie.Need-write-bodies-requires
 write-bodies-requires c κs =
     let g = group-made evrc (c .before .before .before .before .before .before .before .before .before .before .before .before .before .before .args .l) (c .before .before .before .before .before .before .before .before .before .before .before .before .before .before .args .n) (c .before .before .before .before .before .before .before .before .before .before .before .before .before .before .args .b) (c .before .before .before .before .before .before .before .before .before .before .before .before .before .before .args .d) _ (now (c .before .before .before .before .before .before .before .before .before .before .before .before .before .before .args .entries)) (sym (c .before .before .before .before .before .before .before .before .before .held2 .given .1) ∙ c .before .before .before .before .before .before .before .before .before .before .before .count .ensures) (c .before .before .before .before .before .before .before .if1 .left) in
-    let s : length (set (now (c .before .before .before .before .before .before .before .before .before .before .before .before .before .before .args .out)) 0 (c .before .before .before .before .before .before .before .before .before .before .before .before .before .before .args .l * 8 + c .before .before .before .before .before .before .before .before .before .before .before .before .before .before .args .n)) ≡ length (now (c .before .before .before .before .before .before .before .before .before .before .before .before .before .before .args .out)) = simp length-set in
-    (record { length-small = c .before .before .before .before .before .before .before .before .before .before .before .before .before .before .pre .0; index-in = c .before .before .before .before .before .before .before .before .before .before .before .before .before .before .pre .1; bundle-small = c .before .before .before .before .before .before .before .before .before .before .before .before .before .before .pre .3; there = omega (arith, g .count) }, omega (arith, c .before .before .before .write-table .kept .0, c .before .before .before .before .before .before .bodies-size .ensures .0, c .before .before .before .before .before .if2 .left))
+    let s : length (c .before .before .before .write-table .last .0) ≡ length (now (c .before .before .before .before .before .before .before .before .before .before .before .before .before .before .args .out)) = c .before .before .before .write-table .kept .0 ∙ simp length-set in
+    (record { length-small = c .before .before .before .before .before .before .before .before .before .before .before .before .before .before .pre .0; index-in = c .before .before .before .before .before .before .before .before .before .before .before .before .before .before .pre .1; bundle-small = c .before .before .before .before .before .before .before .before .before .before .before .before .before .before .pre .3; there = omega (arith, g .count) }, omega (arith, s, c .before .before .before .before .before .before .bodies-size .ensures .0, c .before .before .before .before .before .if2 .left))
 
 returns-3 : tie.Need-returns-3
 returns-3 c = writes-refusal _ _ _ (group-refused _ _ _ _ _ _ (sym (c .before .held .given .1) ∙ c .before .before .before .count .ensures))

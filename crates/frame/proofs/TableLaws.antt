@@ -13,7 +13,7 @@ use Rattle.octets.proofs.Logic.{both-hold}
 use Rattle.frame.specs.Table.{Vocoder, evrc, rowOf, isThere, octetsOf, known, size, within, lowBits, sendable}
 use Rattle.frame.specs.declared.Row.{Row}
 use Rattle.frame.specs.declared.Lookup.{Lookup}
-use Rattle.frame.specs.declared.Lookup.the-variants.{Found, Missing}
+use Rattle.frame.specs.declared.Lookup.the-variants.{Found}
 
 either : (b : Bool) (x y : Lookup) (m : ℕ) → octetsOf x ≤ m → octetsOf y ≤ m → octetsOf (cond b x y) ≤ m
 either true x y m p q = p
@@ -39,9 +39,6 @@ found-size v t r e = ap octetsOf e
 
 pub evrc-found : (t : ℕ) (r : Row) → rowOf evrc t ≡ Found r → r .octets ≤ 22
 evrc-found t r e = rw (found-size evrc t r e) at (evrc-size t)
-
-pub missing-known : (v : Vocoder) (t : ℕ) → rowOf v t ≡ Missing → known v t ≡ false
-missing-known v t e = ap isThere e
 
 -- the lowest bits of an octet
 pub all-bits : (x bits : ℕ) → x < 256 → 8 ≤ bits → x ≡ lowBits x bits

@@ -112,15 +112,6 @@ pub over-nothing : (d : List ℕ) (at : ℕ) → d ≡ over d at []
 unfolding over
 over-nothing d at = sym (rw (append-nil, add-zero) (take-append-drop at d))
 
-pub length-over : (d : List ℕ) (at : ℕ) (s : List ℕ) → at + length s ≤ length d → length (over d at s) ≡ length d
-unfolding over
-length-over d at s h =
-    let a = length-append (take at d ++ s) (drop (at + length s) d) in
-    let b = length-append (take at d) s in
-    let c = length-take-le at d (omega arith) in
-    let e = length-drop (at + length s) d in
-    omega (arith, a)
-
 -- one octet stored is one octet written over
 pub set-over : (d : List ℕ) (x : ℕ) → 0 < length d → set d 0 x ≡ over d 0 (x ∷ [])
 unfolding over

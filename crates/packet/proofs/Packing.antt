@@ -27,10 +27,7 @@ le-split i j h = go (ltb i j) refl
 pub length-packet : (l n b : ℕ) (fs : List Frame) → length (packetFrames l n b fs) ≡ b
 unfolding packetFrames
 length-packet l n zero fs = refl
-length-packet l n (suc b) fs =
-    let i = length-packet l n b fs in
-    let a = length-append (packetFrames l n b fs) (frameAt fs (placeOf l n b) ∷ []) in
-    omega arith
+length-packet l n (suc b) fs = let i = length-packet l n b fs in simp length-append (omega arith)
 
 -- "Frame k of packet N stands at time place k x (L + 1) + N."
 pub packet-at : (l n b : ℕ) (fs : List Frame) (k : ℕ) → k < b → frameAt (packetFrames l n b fs) k ≡ frameAt fs (placeOf l n k)

@@ -3,4 +3,5 @@ pub mod PayloadClaims
 pub mod RecordingClaims
 pub mod PacketTrips
 pub mod PacketBack
+pub mod JoiningClaims
 pub mod Outcomes

@@ -9,7 +9,7 @@ use lib.ListN.{length, take, drop, getD, length-append}
 use lib.Seq.{take-at, drop-at, take-add, take-all}
 use borrow.Author.Tests.{eq-eqb, ne-eqb, eqb-true, eqb-false, le-leb, leb-true, leb-false, le-ltb, lt-ltb, ltb-true}
 use Rattle.octets.proofs.Logic.{apart, both-true, both-hold}
-use Rattle.frame.specs.Table.{Vocoder, Frame, rowOf, rowWith, rowOfSize, known, size, lowBits, sendable, sendableAs}
+use Rattle.frame.specs.Table.{Vocoder, Frame, rowOf, rowWith, rowOfSize, known, size, lowBits, sendable, sendableAs, typesOf}
 use Rattle.frame.specs.Entry.{typeOf, dOf, more}
 use Rattle.frame.specs.Agreed.{inRange}
 use Rattle.frame.specs.Outputs.{octets, refused}
@@ -30,7 +30,7 @@ use Rattle.recording.specs.declared.Rule.the-variants as rule
 use Rattle.recording.proofs.Walking.{skips}
 use Rattle.recording.proofs.Clearing.{read-any}
 use Rattle.recording.proofs.EntryLaws.{entry as inverted}
-use Rattle.packet.specs.Packet.{typesOf, bodiesOf, follows, tocOf, packed, groupIn}
+use Rattle.packet.specs.Packet.{bodiesOf, follows, tocOf, packed, groupIn}
 use Rattle.packet.specs.Writing.{packetMade, packetOfGroup, headerFreeMade, oneBody}
 use Rattle.packet.proofs.Choosing.{within-group}
 use Rattle.claims.specs.Packets.{PacketWriteAfterRead, AllSendable, EveryD, AreOctets, narrow, kindIs, tells, HeaderFreeReadAfterWrite, HeaderFreeWriteAfterRead, EvrcPasses}

@@ -10,9 +10,9 @@ use lib.ListN.{length, drop, getD, length-append}
 use lib.Seq.{take-at, drop-at}
 use borrow.Author.Tests.{lt-leb, le-leb, le-ltb, ltb-false, leb-true, eqb-true}
 use Rattle.octets.proofs.Logic.{apart, both-true}
-use Rattle.frame.specs.Table.{Vocoder, Frame, known, size}
+use Rattle.frame.specs.Table.{Vocoder, Frame, known, size, typesOf}
 use Rattle.frame.specs.Entry.{typeOf, dOf}
-use Rattle.frame.specs.Places.{frameAt}
+use Rattle.frame.specs.Places.{frameAt, upTo}
 use Rattle.frame.specs.Agreed.{inRange}
 use Rattle.frame.specs.Outputs.{Made, octets, refused}
 use Rattle.frame.specs.declared.Limits.{Limits}
@@ -25,7 +25,7 @@ use Rattle.recording.specs.Entries as entry
 use Rattle.recording.specs.declared.Rule.the-variants as rule
 use Rattle.recording.proofs.EntryLaws.{entry as inverted}
 use Rattle.recording.proofs.Clearing.{read-any}
-use Rattle.packet.specs.Packet.{placeOf, packetFrames, typesOf, bodiesOf, tocOf, packed, groupIn}
+use Rattle.packet.specs.Packet.{placeOf, packetFrames, bodiesOf, tocOf, packed, groupIn}
 use Rattle.packet.specs.Writing.{packetMade, packetWithin, packetOfGroup}
 use Rattle.packet.proofs.Numbering.{place-in}
 use Rattle.packet.proofs.Packing.{length-packet}
@@ -51,7 +51,7 @@ fit-snoc v [] f w x = (x, tt)
 fit-snoc v (g ∷ fs) f w x = (w .0, fit-snoc v fs f (w .1) x)
 
 fit-packet : (v : Vocoder) (l n b : ℕ) (fs : List Frame) → Fit v fs → n ≤ l → (l + 1) * b ≤ length fs → Fit v (packetFrames l n b fs)
-unfolding packetFrames
+unfolding packetFrames upTo
 fit-packet v l n b fs w h q = go b (omega arith)
   where
     go : (k : ℕ) → k ≤ b → Fit v (packetFrames l n k fs)

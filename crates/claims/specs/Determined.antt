@@ -15,6 +15,8 @@ use Rattle.octets.proofs.same.Kinds as octets-same-kinds
 use Rattle.octets.proofs.same.Reads as octets-same
 use Rattle.octets.proofs.zeros.Kinds as octets-zeros-kinds
 use Rattle.octets.proofs.zeros.Reads as octets-zeros
+use Rattle.octets.proofs.any.Kinds as octets-any-kinds
+use Rattle.octets.proofs.any.Reads as octets-any
 use Rattle.frame.proofs.row_of.Kinds as frame-row-of-kinds
 use Rattle.frame.proofs.row_of.Reads as frame-row-of
 use Rattle.frame.proofs.body_size.Kinds as frame-body-size-kinds
@@ -77,6 +79,26 @@ use Rattle.holding.proofs.base_sequence.Kinds as holding-base-sequence-kinds
 use Rattle.holding.proofs.base_sequence.Reads as holding-base-sequence
 use Rattle.holding.proofs.base_timestamp.Kinds as holding-base-timestamp-kinds
 use Rattle.holding.proofs.base_timestamp.Reads as holding-base-timestamp
+use Rattle.holding.proofs.empty.Kinds as holding-empty-kinds
+use Rattle.holding.proofs.empty.Reads as holding-empty
+use Rattle.holding.proofs.packet_in.Kinds as holding-packet-in-kinds
+use Rattle.holding.proofs.packet_in.Reads as holding-packet-in
+use Rattle.holding.proofs.with_packet.Kinds as holding-with-packet-kinds
+use Rattle.holding.proofs.with_packet.Reads as holding-with-packet
+use Rattle.holding.proofs.is_held.Kinds as holding-is-held-kinds
+use Rattle.holding.proofs.is_held.Reads as holding-is-held
+use Rattle.holding.proofs.same_packets.Kinds as holding-same-packets-kinds
+use Rattle.holding.proofs.same_packets.Reads as holding-same-packets
+use Rattle.holding.proofs.same_packet.Kinds as holding-same-packet-kinds
+use Rattle.holding.proofs.same_packet.Reads as holding-same-packet
+use Rattle.holding.proofs.is_sound.Kinds as holding-is-sound-kinds
+use Rattle.holding.proofs.is_sound.Reads as holding-is-sound
+use Rattle.holding.proofs.holds_packet.Kinds as holding-holds-packet-kinds
+use Rattle.holding.proofs.holds_packet.Reads as holding-holds-packet
+use Rattle.joining.proofs.join.Kinds as joining-join-kinds
+use Rattle.joining.proofs.join.Reads as joining-join
+use Rattle.pouring.proofs.pour.Kinds as pouring-pour-kinds
+use Rattle.pouring.proofs.pour.Reads as pouring-pour
 
 -- what a contract allows fixes the answer
 unfoldable pub AnswerFixed : (n : ℕ) (ps : List (PK n)) (r : RK n) → Out n ps r → Type 0
@@ -96,6 +118,7 @@ pub record Determined : Type 0 where
   pub octetsCopy : OutcomeFixed 2 octets-copy-kinds.ps octets-copy-kinds.r octets-copy.Post (List ℕ) (λ κs x s. now (s .0))
   pub octetsSame : AnswerFixed 2 octets-same-kinds.ps octets-same-kinds.r octets-same.Post
   pub octetsZeros : AnswerFixed 1 octets-zeros-kinds.ps octets-zeros-kinds.r octets-zeros.Post
+  pub octetsAny : AnswerFixed 1 octets-any-kinds.ps octets-any-kinds.r octets-any.Post
   pub frameRowOf : AnswerFixed 0 frame-row-of-kinds.ps frame-row-of-kinds.r frame-row-of.Post
   pub frameBodySize : AnswerFixed 0 frame-body-size-kinds.ps frame-body-size-kinds.r frame-body-size.Post
   pub frameRowOfSize : AnswerFixed 0 frame-row-of-size-kinds.ps frame-row-of-size-kinds.r frame-row-of-size.Post
@@ -127,3 +150,13 @@ pub record Determined : Type 0 where
   pub lvPacketWriteHeaderFree : OutcomeFixed 3 landing-lv-packet-write-header-free-kinds.ps landing-lv-packet-write-header-free-kinds.r landing-lv-packet-write-header-free.Post WriteTold (λ κs x s. writeTold x (now (s .1 .1 .1 .1 .1 .0)) (now (s .1 .1 .1 .1 .0)))
   pub holdingBaseSequence : AnswerFixed 0 holding-base-sequence-kinds.ps holding-base-sequence-kinds.r holding-base-sequence.Post
   pub holdingBaseTimestamp : AnswerFixed 0 holding-base-timestamp-kinds.ps holding-base-timestamp-kinds.r holding-base-timestamp.Post
+  pub holdingEmpty : AnswerFixed 0 holding-empty-kinds.ps holding-empty-kinds.r holding-empty.Post
+  pub holdingPacketIn : AnswerFixed 1 holding-packet-in-kinds.ps holding-packet-in-kinds.r holding-packet-in.Post
+  pub holdingWithPacket : AnswerFixed 0 holding-with-packet-kinds.ps holding-with-packet-kinds.r holding-with-packet.Post
+  pub holdingIsHeld : AnswerFixed 0 holding-is-held-kinds.ps holding-is-held-kinds.r holding-is-held.Post
+  pub holdingSamePackets : AnswerFixed 4 holding-same-packets-kinds.ps holding-same-packets-kinds.r holding-same-packets.Post
+  pub holdingSamePacket : AnswerFixed 0 holding-same-packet-kinds.ps holding-same-packet-kinds.r holding-same-packet.Post
+  pub holdingIsSound : AnswerFixed 0 holding-is-sound-kinds.ps holding-is-sound-kinds.r holding-is-sound.Post
+  pub holdingHoldsPacket : AnswerFixed 0 holding-holds-packet-kinds.ps holding-holds-packet-kinds.r holding-holds-packet.Post
+  pub joiningJoin : AnswerFixed 0 joining-join-kinds.ps joining-join-kinds.r joining-join.Post
+  pub pouringPour : OutcomeFixed 1 pouring-pour-kinds.ps pouring-pour-kinds.r pouring-pour.Post (Written × List ℕ) (λ κs x s. (x, now (s .1 .0)))

@@ -2,4 +2,5 @@ pub mod Examples
 pub mod Payloads
 pub mod Recordings
 pub mod Packets
+pub mod Joinings
 pub mod Determined

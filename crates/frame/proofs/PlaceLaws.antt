@@ -3,19 +3,52 @@ use Prim.Native.Nat.{ℕ, zero, suc, _+_, _-_, _≤_, _<_}
 use mathlib.Core.Path.{_≡_, refl, sym, ap, _∙_}
 use mathlib.Core.List.{List, [], _∷_}
 use mathlib.Core.Bool.{Bool, true, false, cond}
-use native.Mathlib.Nat.{zero-add, le-of-suc-le-suc, add-sub-cancel-left}
+use mathlib.Core.Logic.{⊎-elim}
+use native.Mathlib.Nat.{zero-add, le-of-suc-le-suc, eq-or-lt-of-le, add-sub-cancel-left}
 use native.Mathlib.Omega.{arith}
 use lib.Dec.{ltb}
-use lib.ListN.{length, take, drop, List·getD-eq-default}
+use lib.ListN.{length, take, drop, getD, length-append, List·getD-eq-default, List·getD-append}
+use lib.Seq.{getD-at}
 use denote.Ref.{RefT, now, ptr}
 use borrow.Author.Tests.{le-leb, lt-leb, lt-ltb, le-ltb, ltb-true, ltb-false}
 use Rattle.octets.proofs.Logic.{apart}
-use Rattle.frame.specs.Table.{Frame}
-use Rattle.frame.specs.Places.{Given, frames, refused, taken, frameAt, noFrame, locatedOf, bodyOf, startOf, sizeOf, liesIn, partOf, partStart, VeryPart}
+use Rattle.frame.specs.Table.{Vocoder, Frame, typesOf, Listed, AllListed}
+use Rattle.frame.specs.Places.{upTo, Given, frames, refused, taken, frameAt, noFrame, locatedOf, bodyOf, startOf, sizeOf, liesIn, partOf, partStart, VeryPart}
 use Rattle.frame.specs.declared.Refusal.{Refusal}
 use Rattle.frame.specs.declared.Refusal.the-variants.{NotApplicable}
 use Rattle.frame.specs.declared.Located.{Located}
 use Rattle.frame.specs.declared.Located.the-variants.{At, Refused}
+
+-- ---- the first n of a sequence
+module _ {A : Type 0} (f : ℕ → A) where
+  pub length-upTo : (n : ℕ) → length (upTo f n) ≡ n
+  unfolding upTo
+  length-upTo zero = refl
+  length-upTo (suc n) = let i = length-upTo n in simp length-append (omega arith)
+
+  pub upTo-at : (n k : ℕ) (d : A) → k < n → getD (upTo f n) k d ≡ f k
+  unfolding upTo
+  upTo-at zero k d h = absurd (omega arith)
+  upTo-at (suc n) k d h =
+      ⊎-elim (λ (q : k ≡ n). getD-at (upTo f n) (f n) [] d k (length-upTo n ∙ sym q) ∙ ap f (sym q))
+      (λ (q : k < n). List·getD-append (upTo f n) (f n ∷ []) d k (omega (arith, length-upTo n)) ∙ upTo-at n k d q)
+      (eq-or-lt-of-le (le-of-suc-le-suc h))
+
+-- ---- the types of frames
+pub types-at : (fs : List Frame) (k : ℕ) → getD (typesOf fs) k 0 ≡ frameAt fs k .type
+types-at [] k = refl
+types-at (f ∷ fs) zero = refl
+types-at (f ∷ fs) (suc k) = types-at fs k
+
+pub length-types : (fs : List Frame) → length (typesOf fs) ≡ length fs
+length-types [] = refl
+length-types (f ∷ fs) = ap suc (length-types fs)
+
+-- frame k of frames that are as the table has them
+pub listed-at : (v : Vocoder) (fs : List Frame) (k : ℕ) → AllListed v fs → k < length fs → Listed v (frameAt fs k)
+listed-at v [] k w h = absurd (omega arith)
+listed-at v (f ∷ fs) zero w h = w .0
+listed-at v (f ∷ fs) (suc k) w h = listed-at v fs k (w .1) (omega arith)
 
 -- ---- a part
 pub not-there : (l : Located) (p : List ℕ) → liesIn l p ≡ false → ([] ≡ partOf l p) × (0 ≡ partStart l p)

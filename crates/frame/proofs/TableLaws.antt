@@ -2,15 +2,15 @@
 use Prim.Native.Nat.{ℕ, _-_, _*_, _^_, _%_, _≤_, _<_, zero-le}
 use mathlib.Core.Path.{_≡_, refl, sym, ap, _∙_}
 use mathlib.Core.List.{List, [], _∷_}
-use mathlib.Core.Bool.{Bool, true, false, cond}
+use mathlib.Core.Bool.{Bool, true, false, cond, _&&_}
 use native.Mathlib.Nat.{one-mul, mod-eq-of-lt, lt-of-lt-of-le}
 use native.Mathlib.Omega.{arith}
-use lib.Dec.{T, leb, eqb, leb→le}
+use lib.Dec.{T, leb, eqb, leb→le, eqb→eq}
 use lib.ListN.{length, getD}
 use lib.Pow.{pow-pos, pow-mono, shl-exact}
-use borrow.Author.Tests.{eq-eqb, ne-eqb}
-use Rattle.octets.proofs.Logic.{both-hold}
-use Rattle.frame.specs.Table.{Vocoder, evrc, rowOf, isThere, octetsOf, known, size, within, lowBits, sendable}
+use borrow.Author.Tests.{eq-eqb, ne-eqb, eqb-true}
+use Rattle.octets.proofs.Logic.{apart, both-hold, hold-true}
+use Rattle.frame.specs.Table.{Vocoder, evrc, rowOf, rowWith, isThere, octetsOf, known, size, within, erasure, erases, single, lowBits, sendable}
 use Rattle.frame.specs.declared.Row.{Row}
 use Rattle.frame.specs.declared.Lookup.{Lookup}
 use Rattle.frame.specs.declared.Lookup.the-variants.{Found}
@@ -64,3 +64,34 @@ module _ (v : Vocoder) (t : ℕ) (b : List ℕ) (r : Row) (is : rowOf v t ≡ Fo
       empty : (l : List ℕ) → length l ≡ 0 → getD l (r .octets - 1) 0 ≡ 0
       empty [] e = refl
       empty (x ∷ l) e = absurd (omega arith)
+
+-- the row that a size finds, of a table whose types stand in one row each
+pub size-listed : (v u : Vocoder) (n : ℕ) (r : Row) → T (single v u) → rowWith u n ≡ Found r → (known v (r .kind) ≡ true) × (size v (r .kind) ≡ n)
+unfolding rowWith
+size-listed v [] n r h e = apart (cc)
+size-listed v (x ∷ u) n r h e = go (eqb n (x .octets)) refl e (size-listed v u n r (a .1))
+  where
+    a : T (known v (x .kind) && eqb (size v (x .kind)) (x .octets)) × T (single v u)
+    a = both-hold (known v (x .kind) && eqb (size v (x .kind)) (x .octets)) (single v u) h
+
+    b : T (known v (x .kind)) × T (eqb (size v (x .kind)) (x .octets))
+    b = both-hold (known v (x .kind)) (eqb (size v (x .kind)) (x .octets)) (a .0)
+
+    go : (t : Bool) → eqb n (x .octets) ≡ t → cond t (Found x) (rowWith u n) ≡ Found r → (rowWith u n ≡ Found r → (known v (r .kind) ≡ true) × (size v (r .kind) ≡ n)) → (known v (r .kind) ≡ true) × (size v (r .kind) ≡ n)
+    go true q y i =
+        let z : x ≡ r = cc in
+        (rw z at (hold-true (known v (x .kind)) (b .0)), rw z at (eqb→eq (size v (x .kind)) (x .octets) (b .1)) ∙ sym (eqb-true n (x .octets) q ∙ ap (λ (y : Row). y .octets) z))
+    go false q y i = i y
+
+pub evrc-single : T (single evrc evrc)
+unfolding rowOf
+evrc-single = tt
+
+pub evrc-erases : T (erases evrc)
+unfolding rowOf
+evrc-erases = tt
+
+pub erasure-listed : (v : Vocoder) → T (erases v) → (known v erasure ≡ true) × (size v erasure ≡ 0)
+erasure-listed v h =
+    let p = both-hold (known v erasure) (eqb (size v erasure) 0) h in
+    (hold-true (known v erasure) (p .0), eqb→eq (size v erasure) 0 (p .1))

@@ -1,7 +1,7 @@
 -- Document 01, "Payloads": frame k of these frames, for payloads and recordings alike: its type and the very part where its body lies.
-use Prim.Native.Nat.{ℕ, _+_, _-_}
+use Prim.Native.Nat.{ℕ, zero, suc, _+_, _-_}
 use mathlib.Core.Path.{_≡_}
-use mathlib.Core.List.{List, [], _∷_}
+use mathlib.Core.List.{List, [], _∷_, _++_}
 use mathlib.Core.Bool.{Bool, false, cond, _&&_}
 use lib.Dec.{leb, ltb}
 use lib.ListN.{length, take, drop, getD}
@@ -11,6 +11,11 @@ use Rattle.frame.specs.declared.Refusal.{Refusal}
 use Rattle.frame.specs.declared.Refusal.the-variants.{NotApplicable}
 use Rattle.frame.specs.declared.Located.{Located}
 use Rattle.frame.specs.declared.Located.the-variants.{At, Refused}
+
+-- the first n of a sequence, in order
+unfoldable pub upTo : {A : Type 0} → (ℕ → A) → ℕ → List A
+upTo f zero = []
+upTo f (suc n) = upTo f n ++ (f n ∷ [])
 
 -- what a reader gives: its refusal, or frames that lie in order behind `head` octets, with `gap` octets before each body
 pub data Given : Type 0 where

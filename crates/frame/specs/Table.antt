@@ -1,5 +1,6 @@
 -- Document 01, "Frames": a frame has a type and a body; a frame table is a list of rows, and laws are proved of any table.
 use Prim.Native.Nat.{ℕ, _-_, _%_, _^_}
+use mathlib.Core.Path.{_≡_}
 use mathlib.Core.List.{List, [], _∷_}
 use mathlib.Core.Bool.{Bool, true, false, cond, _&&_}
 use lib.Dec.{eqb, leb}
@@ -13,6 +14,11 @@ pub record Frame : Type 0 where
   pub type : ℕ
   pub body : List ℕ
 
+-- the types of frames
+abbrev pub typesOf : List Frame → List ℕ
+typesOf [] = []
+typesOf (f ∷ fs) = f .type ∷ typesOf fs
+
 abbrev pub Vocoder : Type 0
 Vocoder = List Row
 
@@ -25,6 +31,10 @@ evrc =
     record { kind = 4; octets = 22; spare = 5; sent = true } ∷
     record { kind = 14; octets = 0; spare = 0; sent = false } ∷
     []
+
+-- the type that stands where a frame was not heard, in every table here
+abbrev pub erasure : ℕ
+erasure = 14
 
 -- the row of a type; "all others are reserved"
 unfoldable pub rowOf : Vocoder → ℕ → Lookup
@@ -60,6 +70,24 @@ size v t = octetsOf (rowOf v t)
 abbrev pub within : ℕ → Vocoder → Bool
 within m [] = true
 within m (r ∷ v) = leb (r .octets) m && within m v
+
+-- an erasure is in the table, and has no body
+abbrev pub erases : Vocoder → Bool
+erases v = known v erasure && eqb (size v erasure) 0
+
+-- a type stands in one row only: what a row says of its type is what the table says of it
+abbrev pub single : Vocoder → Vocoder → Bool
+single v [] = true
+single v (r ∷ u) = known v (r .kind) && eqb (size v (r .kind)) (r .octets) && single v u
+
+-- a frame as the table has it: its type is there, and its body as long as the table says
+pub record Listed (v : Vocoder) (f : Frame) : Type 0 where
+  pub type-known : known v (f .type) ≡ true
+  pub octets : length (f .body) ≡ size v (f .type)
+
+abbrev pub AllListed : Vocoder → List Frame → Type 0
+AllListed v [] = Unit {0}
+AllListed v (f ∷ fs) = Listed v f × AllListed v fs
 
 -- the lowest bits of an octet, as a number
 abbrev pub lowBits : ℕ → ℕ → ℕ

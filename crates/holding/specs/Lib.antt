@@ -1,1 +1,3 @@
 pub mod Bases
+pub mod Group
+pub mod LaidOut

@@ -17,3 +17,12 @@ both-true false t e = apart (cc)
 pub both-hold : (s t : Bool) → T (s && t) → T s × T t
 both-hold true t h = (tt, h)
 both-hold false t h = absurd h
+
+-- one test that is false decides
+pub both-false : (t : Bool) → t && false ≡ false
+both-false true = refl
+both-false false = refl
+
+pub hold-true : (t : Bool) → T t → t ≡ true
+hold-true true h = refl
+hold-true false h = absurd h

@@ -1,5 +1,5 @@
 -- Laws of lists of octets. Assumes nothing.
-use Prim.Native.Nat.{ℕ, suc, _+_, _-_, _≤_, _<_}
+use Prim.Native.Nat.{ℕ, zero, suc, _+_, _-_, _≤_, _<_}
 use mathlib.Core.Bool.{Bool, true, false, _&&_}
 use mathlib.Core.Path.{_≡_, refl, sym, ap, _∙_}
 use mathlib.Core.List.{List, [], _∷_, _++_, append-assoc, append-nil}
@@ -10,7 +10,7 @@ use lib.ListN.{take-append-drop, length-drop, length-append, length, take, drop,
 use lib.Seq.{take-at, drop-append-add, drop-drop, drop-cons, length-take-le, paste, paste-suc, take-all}
 use lib.Dec.{eqb}
 use borrow.Author.Tests.{eq-eqb, ne-eqb, eqb-true}
-use Rattle.octets.specs.Octets.{over, sameOctets, allZero}
+use Rattle.octets.specs.Octets.{over, sameOctets, allZero, anySet}
 use Rattle.octets.proofs.Logic.{apart, both-true}
 
 -- ---- sameOctets
@@ -79,6 +79,21 @@ module _ (s : List ℕ) (i : ℕ) (left : allZero s ≡ allZero (drop i s)) wher
   unfolding allZero
   zero-end h = let p : drop i s ≡ [] = drop-of-length-le s h in sym (left ∙ simp p)
 
+-- ---- anySet
+
+module _ (s : List Bool) (i : ℕ) (left : anySet s ≡ anySet (drop i s)) where
+  pub any-again : i < length s → getD s i false ≡ false → anySet s ≡ anySet (drop (i + 1) s)
+  unfolding anySet
+  any-again h e = left ∙ rw (add-one, drop-cons s i false, e)
+
+  pub any-found : i < length s → getD s i false ≡ true → true ≡ anySet s
+  unfolding anySet
+  any-found h e = sym (left ∙ rw (drop-cons s i false, e))
+
+  pub any-end : length s ≤ i → false ≡ anySet s
+  unfolding anySet
+  any-end h = let p : drop i s ≡ [] = drop-of-length-le s h in sym (left ∙ simp p)
+
 -- ---- over
 
 -- a loop that writes s over d, at i
@@ -113,10 +128,13 @@ unfolding over
 over-nothing d at = sym (rw (append-nil, add-zero) (take-append-drop at d))
 
 -- one octet stored is one octet written over
-pub set-over : (d : List ℕ) (x : ℕ) → 0 < length d → set d 0 x ≡ over d 0 (x ∷ [])
+pub set-over : (d : List ℕ) (i x : ℕ) → i < length d → set d i x ≡ over d i (x ∷ [])
 unfolding over
-set-over [] x h = absurd (omega arith)
-set-over (y ∷ d) x h = refl
+set-over [] i x h = absurd (omega arith)
+set-over (y ∷ d) zero x h = refl
+set-over (y ∷ d) (suc i) x h =
+    let e : suc i + 1 ≡ suc (i + 1) = omega arith in
+    rw e (ap (λ (l : List ℕ). y ∷ l) (set-over d i x (omega arith)))
 
 -- ---- a part that goes to the end, `&s[n..]`
 pub to-the-end : (p : List ℕ) (n : ℕ) → take (length p - n) (drop n p) ≡ drop n p

@@ -20,3 +20,9 @@ sameOctets (x ∷ xs) (y ∷ ys) = eqb x y && sameOctets xs ys
 unfoldable pub allZero : List ℕ → Bool
 allZero [] = true
 allZero (x ∷ xs) = eqb x 0 && allZero xs
+
+-- some flag is set
+unfoldable pub anySet : List Bool → Bool
+anySet [] = false
+anySet (true ∷ ts) = true
+anySet (false ∷ ts) = anySet ts

@@ -1,8 +1,8 @@
-// Octets in slices: copied, compared, and tested for zero.
+// Octets in slices: copied, compared, and tested for zero; flags, tested for one that is set.
 ghost use mathlib.Core.Path.{_≡_};
 ghost use Prim.Native.Nat.{_+_, _≤_};
 ghost use lib.ListN.{length};
-ghost use Rattle.octets.specs.Octets.{over, sameOctets, allZero};
+ghost use Rattle.octets.specs.Octets.{over, sameOctets, allZero, anySet};
 
 // internal: a caller has tested the room before the first octet is written.
 // Copies src over dst from index at on.
@@ -46,4 +46,18 @@ pub fn zeros(s: &[u8]) -> bool
         i += 1;
     }
     true
+}
+
+// Whether some flag of s is set.
+pub fn any(s: &[bool]) -> bool
+    ensures { λ r. ⌜ r ≡ anySet (now (s .entry)) ⌝ }
+{
+    let mut i = 0;
+    while i < s.len() {
+        if s[i] {
+            return true;
+        }
+        i += 1;
+    }
+    false
 }

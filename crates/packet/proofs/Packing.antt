@@ -7,15 +7,16 @@ use mathlib.Core.Bool.{Bool, true, false}
 use native.Mathlib.Nat.{le-of-suc-le-suc, zero-add, add-comm}
 use native.Mathlib.Numerals.{add-one}
 use native.Mathlib.Omega.{arith}
-use lib.ListN.{length, getD, set, length-append, List·getD-append}
-use lib.Seq.{getD-at, paste}
+use lib.ListN.{length, getD, set, length-append}
+use lib.Seq.{paste}
 use lib.Dec.{ltb}
 use borrow.Author.Tests.{ltb-true, ltb-false}
 use Rattle.octets.specs.Octets.{over}
 use Rattle.octets.proofs.OctetLaws.{copy-more, set-over, over-append}
-use Rattle.frame.specs.Table.{Frame}
-use Rattle.frame.specs.Places.{frameAt, noFrame}
-use Rattle.packet.specs.Packet.{placeOf, packetFrames, typesOf, bodiesOf, follows, tocOf, packed}
+use Rattle.frame.specs.Table.{Frame, typesOf}
+use Rattle.frame.specs.Places.{frameAt, noFrame, upTo}
+use Rattle.frame.proofs.PlaceLaws.{length-upTo, upTo-at, types-at, length-types}
+use Rattle.packet.specs.Packet.{placeOf, packetFrames, bodiesOf, follows, tocOf, packed}
 
 le-split : (i j : ℕ) → i ≤ j → (i < j) ⊎ (i ≡ j)
 le-split i j h = go (ltb i j) refl
@@ -26,32 +27,12 @@ le-split i j h = go (ltb i j) refl
 
 pub length-packet : (l n b : ℕ) (fs : List Frame) → length (packetFrames l n b fs) ≡ b
 unfolding packetFrames
-length-packet l n zero fs = refl
-length-packet l n (suc b) fs = let i = length-packet l n b fs in simp length-append (omega arith)
+length-packet l n b fs = length-upTo (λ k. frameAt fs (placeOf l n k)) b
 
 -- "Frame k of packet N stands at time place k x (L + 1) + N."
 pub packet-at : (l n b : ℕ) (fs : List Frame) (k : ℕ) → k < b → frameAt (packetFrames l n b fs) k ≡ frameAt fs (placeOf l n k)
 unfolding packetFrames
-packet-at l n zero fs k h = absurd (omega arith)
-packet-at l n (suc b) fs k h = ⊎-elim (λ (q : k < b). before q (packet-at l n b fs k q)) (λ (q : k ≡ b). here q) (le-split k b (le-of-suc-le-suc h))
-  where
-    xs : List Frame
-    xs = packetFrames l n b fs
-
-    before : k < b → frameAt xs k ≡ frameAt fs (placeOf l n k) → frameAt (xs ++ (frameAt fs (placeOf l n b) ∷ [])) k ≡ frameAt fs (placeOf l n k)
-    before q i = List·getD-append xs (frameAt fs (placeOf l n b) ∷ []) noFrame k (omega (arith, length-packet l n b fs)) ∙ i
-
-    here : k ≡ b → frameAt (xs ++ (frameAt fs (placeOf l n b) ∷ [])) k ≡ frameAt fs (placeOf l n k)
-    here q = getD-at xs (frameAt fs (placeOf l n b)) [] noFrame k (length-packet l n b fs ∙ sym q) ∙ ap (λ (j : ℕ). frameAt fs (placeOf l n j)) (sym q)
-
-pub types-at : (fs : List Frame) (k : ℕ) → getD (typesOf fs) k 0 ≡ frameAt fs k .type
-types-at [] k = refl
-types-at (f ∷ fs) zero = refl
-types-at (f ∷ fs) (suc k) = types-at fs k
-
-pub length-types : (fs : List Frame) → length (typesOf fs) ≡ length fs
-length-types [] = refl
-length-types (f ∷ fs) = ap suc (length-types fs)
+packet-at l n b fs k h = upTo-at (λ j. frameAt fs (placeOf l n j)) b k noFrame h
 
 pub length-toc : (d : ℕ) (ts : List ℕ) → length (tocOf d ts) ≡ length ts
 length-toc d [] = refl
@@ -77,12 +58,12 @@ bodies-append [] ys = refl
 bodies-append (f ∷ xs) ys = ap (λ (l : List ℕ). f .body ++ l) (bodies-append xs ys) ∙ sym (append-assoc (f .body) (bodiesOf xs) (bodiesOf ys))
 
 pub bodies-next : (l n k : ℕ) (fs : List Frame) → bodiesOf (packetFrames l n (k + 1) fs) ≡ bodiesOf (packetFrames l n k fs) ++ frameAt fs (placeOf l n k) .body
-unfolding packetFrames
+unfolding packetFrames upTo
 bodies-next l n k fs =
     rw (add-one k) (bodies-append (packetFrames l n k fs) (frameAt fs (placeOf l n k) ∷ []) ∙ ap (λ (x : List ℕ). bodiesOf (packetFrames l n k fs) ++ x) (append-nil (frameAt fs (placeOf l n k) .body)))
 
 pub bodies-within : (l n k b : ℕ) (fs : List Frame) → k ≤ b → length (bodiesOf (packetFrames l n k fs)) ≤ length (bodiesOf (packetFrames l n b fs))
-unfolding packetFrames
+unfolding packetFrames upTo
 bodies-within l n k zero fs h = let z : k ≡ 0 = omega arith in rw z (omega arith)
 bodies-within l n k (suc b) fs h = ⊎-elim (λ (q : k < suc b). less (bodies-within l n k b fs (le-of-suc-le-suc q))) (λ (q : k ≡ suc b). rw q (omega arith)) (le-split k (suc b) h)
   where
@@ -126,6 +107,6 @@ module _ (l n b d : ℕ) (fs : List Frame) where
       let x = l * 8 + n in
       let t = tocOf d (typesOf (packetFrames l n b fs)) in
       let z = bodiesOf (packetFrames l n b fs) in
-      let a : over (set out 0 x) 1 t ≡ over out 0 (x ∷ t) = ap (λ (o : List ℕ). over o 1 t) (set-over out x h) ∙ over-append out 0 (x ∷ []) t (omega arith) in
+      let a : over (set out 0 x) 1 t ≡ over out 0 (x ∷ t) = ap (λ (o : List ℕ). over o 1 t) (set-over out 0 x h) ∙ over-append out 0 (x ∷ []) t (omega arith) in
       let m : 1 + b ≡ 0 + length (x ∷ t) = omega (arith, length-table l n b d fs) in
       ap (λ (o : List ℕ). over o (1 + b) z) a ∙ ap (λ (i : ℕ). over (over out 0 (x ∷ t)) i z) m ∙ over-append out 0 (x ∷ t) z (omega arith)

@@ -1,11 +1,11 @@
 -- Document 01, "Payloads" and "Groups": the octets of a packet, and which of a group's frames it has.
-use Prim.Native.Nat.{ℕ, zero, suc, _+_, _*_, _<_, _≤_}
+use Prim.Native.Nat.{ℕ, _+_, _*_, _<_, _≤_}
 use mathlib.Core.Path.{_≡_}
 use mathlib.Core.List.{List, [], _∷_, _++_}
 use lib.ListN.{length, take, drop, getD}
-use Rattle.frame.specs.Table.{Vocoder, Frame, size}
+use Rattle.frame.specs.Table.{Vocoder, Frame, size, typesOf}
 use Rattle.frame.specs.Entry.{typeOf}
-use Rattle.frame.specs.Places.{frameAt}
+use Rattle.frame.specs.Places.{frameAt, upTo}
 use Rattle.recording.specs.Entries.{entriesIn, framesIn}
 use Rattle.recording.specs.declared.Rule.the-variants.{Any}
 
@@ -15,12 +15,7 @@ placeOf l n k = k * (l + 1) + n
 
 -- the first b frames of packet N, of the group's frames in time order
 unfoldable pub packetFrames : ℕ → ℕ → ℕ → List Frame → List Frame
-packetFrames l n zero fs = []
-packetFrames l n (suc b) fs = packetFrames l n b fs ++ (frameAt fs (placeOf l n b) ∷ [])
-
-abbrev pub typesOf : List Frame → List ℕ
-typesOf [] = []
-typesOf (f ∷ fs) = f .type ∷ typesOf fs
+packetFrames l n b fs = upTo (λ k. frameAt fs (placeOf l n k)) b
 
 abbrev pub bodiesOf : List Frame → List ℕ
 bodiesOf [] = []

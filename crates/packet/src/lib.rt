@@ -10,12 +10,12 @@ ghost use mathlib.Core.Path.{_≡_};
 ghost use Prim.Native.Nat.{_+_, _*_, _<_, _≤_};
 ghost use lib.ListN.{length};
 ghost use Rattle.octets.specs.Octets.{over};
-ghost use Rattle.frame.specs.Table.{evrc};
+ghost use Rattle.frame.specs.Table.{evrc, typesOf};
 ghost use Rattle.frame.specs.Outputs.{Writes};
 ghost use Rattle.frame.specs.declared.Form.the-variants.{Interleaved};
 ghost use Rattle.frame.specs.Places.{frameAt};
 ghost use Rattle.recording.specs.Entries.{entriesIn};
-ghost use Rattle.packet.specs.Packet.{placeOf, packetFrames, tocOf, typesOf, bodiesOf, groupIn, Picked, EntryAt};
+ghost use Rattle.packet.specs.Packet.{placeOf, packetFrames, tocOf, bodiesOf, groupIn, Picked, EntryAt};
 ghost use Rattle.packet.specs.Writing.{packetMade, packetWithin, packetOfGroup, headerFreeMade, oneBody};
 
 // The place of the entry of frame k of packet n.

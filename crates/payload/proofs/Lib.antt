@@ -2,3 +2,4 @@ pub mod Steps
 pub mod Tables
 pub mod Checks
 pub mod Laying
+pub mod Readings

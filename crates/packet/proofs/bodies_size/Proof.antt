@@ -9,6 +9,7 @@ use borrow.Author.Needs.{needs}
 use Rattle.frame.proofs.TableLaws.{evrc-size}
 use Rattle.frame.specs.Entry.{typeOf}
 use Rattle.frame.specs.Table.{evrc}
+use Rattle.frame.specs.Places.{upTo}
 use Rattle.packet.specs.Packet.{packetFrames, bodiesOf, groupIn}
 use Rattle.packet.proofs.Picking.{next-body}
 use Rattle.packet.proofs.bodies_size.Statement.{statement}
@@ -22,7 +23,7 @@ abbrev μ-loop : tie.MeasureT-loop
 μ-loop l n b entries size₀ k₀ size k = b - k
 
 loop-holds : tie.Need-loop-holds Inv-loop μ-loop
-unfolding packetFrames
+unfolding packetFrames upTo
 loop-holds c = (omega arith, omega arith, refl)
 
 entry-of-requires : tie.Need-entry-of-requires Inv-loop μ-loop

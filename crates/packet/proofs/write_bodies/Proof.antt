@@ -6,7 +6,7 @@ use native.Mathlib.Omega.{arith}
 use lib.ListN.{length}
 use denote.Ref.{now}
 use borrow.Author.Needs.{needs}
-use Rattle.frame.specs.Places.{frameAt}
+use Rattle.frame.specs.Places.{frameAt, upTo}
 use Rattle.frame.specs.Table.{evrc}
 use Rattle.octets.proofs.OctetLaws.{over-append, over-nothing}
 use Rattle.octets.specs.Octets.{over}
@@ -28,7 +28,7 @@ add-to : tie.Need-add-to Inv-loop μ-loop
 add-to c = omega (arith, c .before .before .pre .0 .bundle-small)
 
 loop-holds : tie.Need-loop-holds Inv-loop μ-loop
-unfolding packetFrames
+unfolding packetFrames upTo
 loop-holds c = (omega arith, refl, omega arith, over-nothing (now (c .before .before .args .out)) (1 + c .before .before .args .b))
 
 entry-of-requires : tie.Need-entry-of-requires Inv-loop μ-loop

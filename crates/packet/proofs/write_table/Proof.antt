@@ -5,9 +5,9 @@ use native.Mathlib.Omega.{arith}
 use lib.Seq.{paste, paste-zero}
 use lib.ListN.{length, length-set}
 use denote.Ref.{now}
-use Rattle.frame.specs.Table.{evrc}
+use Rattle.frame.specs.Table.{evrc, typesOf}
 use Rattle.octets.proofs.OctetLaws.{copy-all}
-use Rattle.packet.specs.Packet.{packetFrames, typesOf, tocOf, groupIn}
+use Rattle.packet.specs.Packet.{packetFrames, tocOf, groupIn}
 use Rattle.packet.proofs.Packing.{length-table, table-more, table-last, entry-stored}
 use Rattle.packet.proofs.Packing.{length-table, table-more, table-last}
 use Rattle.packet.proofs.write_table.Statement.{statement}

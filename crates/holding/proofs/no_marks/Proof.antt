@@ -1,0 +1,12 @@
+-- `holding::no_marks` meets its contract.
+use mathlib.Core.Path.{refl}
+use Rattle.holding.specs.Group.{nothing}
+use Rattle.holding.proofs.no_marks.Statement.{statement}
+use Rattle.holding.proofs.no_marks.Tie as tie
+
+returns : tie.Need-returns
+unfolding nothing
+returns c = refl
+
+pub no-marks-spec : {M : Type 1} → statement M
+no-marks-spec = tie.close (tie.spec returns)

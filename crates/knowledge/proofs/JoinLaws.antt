@@ -1,0 +1,352 @@
+-- What joining makes of holdings of one group: the one holding that has every packet of any of them and no other. Assumes nothing.
+use Prim.Native.Nat.{ℕ, zero, suc, _<_}
+use mathlib.Core.Bool.{Bool, true, false, cond, _&&_}
+use mathlib.Core.Path.{_≡_, refl, sym, ap, ap₂, subst, _∙_}
+use mathlib.Core.List.{List, [], _∷_, _++_}
+use mathlib.Core.Logic.{_⊎_, ⊎-elim, inl, inr}
+use native.Mathlib.Omega.{arith}
+use lib.ListN.{length, getD}
+use lib.Dec.{leb}
+use Rattle.octets.specs.Octets.{anySet}
+use Rattle.octets.proofs.Logic.{apart, both-true}
+use Rattle.frame.specs.Table.{Vocoder}
+use Rattle.frame.specs.declared.Refusal.the-variants.{PacketDiffers}
+use Rattle.holding.specs.Group.{allBelow, erased, samePackets, framesRight, heldAt, packetOf, packetRight, rightAt, sound, holds}
+use Rattle.joining.specs.Joining.{meets, agreeAt, agree, either, refusedJoin, joinOf}
+use Rattle.holding.specs.declared.Holding.{Holding}
+use Rattle.holding.specs.declared.Packet.{Packet}
+use Rattle.holding.specs.declared.Answer.the-variants.{Done}
+use Rattle.holding.proofs.GroupLaws.{all-at, all-intro, all-fails, Sound, sound-has, has-sound, holds-sound}
+use Rattle.joining.proofs.Heads.{SameHead, take-head, head-group, head-sym, head-refl, head-trans}
+use Rattle.knowledge.specs.Knowledge.{Shaped, Box, Among}
+use Rattle.knowledge.proofs.Cells.{Cell, cell, mix, take-shaped, take-cell, cells-ext}
+use Rattle.knowledge.proofs.PacketLaws.{packets-true, packets-refl}
+
+-- ---- tests
+-- a test that fails below n fails somewhere
+pub record Fails (f : ℕ → Bool) (n : ℕ) : Type 0 where
+  pub at : ℕ
+  pub below : at < n
+  pub fails : f at ≡ false
+
+pub all-witness : (f : ℕ → Bool) (n : ℕ) → allBelow f n ≡ false → Fails f n
+unfolding allBelow
+all-witness f zero e = apart (cc)
+all-witness f (suc n) e = go (f n) refl e (λ h. all-witness f n h)
+  where
+    go : (t : Bool) → f n ≡ t → t && allBelow f n ≡ false → (allBelow f n ≡ false → Fails f n) → Fails f (suc n)
+    go true q h i = let w = i h in record { at = w .at; below = omega (arith, w .below); fails = w .fails }
+    go false q h i = record { at = n; below = omega arith; fails = q }
+
+-- ---- cells of a box
+abbrev cellRight : Vocoder → ℕ → ℕ → ℕ → Cell → Bool
+cellRight v l b n x = packetRight v l b n (x .0) (x .1)
+
+pub box-sound : (v : Vocoder) (h : Holding) → Box v h → Sound v h
+box-sound v h x = sound-has v h (holds-sound v h (x .some) .0)
+
+pub box-cell : (v : Vocoder) (h : Holding) → Box v h → (n : ℕ) → n < 8 → cellRight v (h .l) (h .b) n (cell h n) ≡ true
+unfolding cell rightAt
+box-cell v h x n k = all-at (rightAt v h) 8 n (box-sound v h x .packets) k
+
+cell-blank : (v : Vocoder) (l b n : ℕ) (x : Cell) → cellRight v l b n x ≡ true → x .0 ≡ false → x .1 ≡ erased
+unfolding packetRight
+cell-blank v l b n (true, p) e f = apart (cc)
+cell-blank v l b n (false, p) e f = packets-true p erased e
+
+-- a packet that is not held reads as erasures
+pub box-blank : (v : Vocoder) (h : Holding) → Box v h → (n : ℕ) → n < 8 → heldAt h n ≡ false → packetOf h n ≡ erased
+unfolding cell
+box-blank v h x n k e = cell-blank v (h .l) (h .b) n (cell h n) (box-cell v h x n k) e
+
+-- one that is held is none above L, and its frames keep the rule
+pub right-held : (v : Vocoder) (h : Holding) → Box v h → (n : ℕ) → n < 8 → heldAt h n ≡ true → (leb n (h .l) ≡ true) × (framesRight v (h .b) (packetOf h n) ≡ true)
+unfolding cell packetRight
+right-held v h x n k e = both-true (leb n (h .l)) (framesRight v (h .b) (packetOf h n)) (go (heldAt h n) e (box-cell v h x n k))
+  where
+    go : (t : Bool) → t ≡ true → cond t (leb n (h .l) && framesRight v (h .b) (packetOf h n)) (samePackets (packetOf h n) erased) ≡ true → leb n (h .l) && framesRight v (h .b) (packetOf h n) ≡ true
+    go true p q = q
+    go false p q = apart (cc)
+
+-- ---- every packet of either, of two boxes of one group
+mix-right : (v : Vocoder) (l b n : ℕ) (x y : Cell) → cellRight v l b n x ≡ true → cellRight v l b n y ≡ true → cellRight v l b n (mix x y) ≡ true
+mix-right v l b n x (true, q) e f = f
+mix-right v l b n x (false, q) e f = e
+
+mix-on : (x y : Cell) → x .0 ≡ true → mix x y .0 ≡ true
+mix-on x (true, q) e = refl
+mix-on x (false, q) e = e
+
+any-more : (s t : List Bool) → length s ≡ length t → ((n : ℕ) → n < length s → getD s n false ≡ true → getD t n false ≡ true) → anySet s ≡ true → anySet t ≡ true
+unfolding anySet
+any-more [] t e h f = apart (cc)
+any-more (x ∷ s) [] e h f = absurd (omega arith)
+any-more (true ∷ s) (y ∷ t) e h f = let g : y ≡ true = h 0 (omega arith) refl in rw g
+any-more (false ∷ s) (true ∷ t) e h f = refl
+any-more (false ∷ s) (false ∷ t) e h f = any-more s t (omega arith) (λ n k. h (suc n) (omega arith)) f
+
+right-cell : (v : Vocoder) (h : Holding) (n : ℕ) → rightAt v h n ≡ cellRight v (h .l) (h .b) n (cell h n)
+unfolding rightAt cell
+right-cell v h n = refl
+
+module _ (v : Vocoder) (a b : Holding) (x : Box v a) (y : Box v b) (g : SameHead a b) where
+  either-shaped : Shaped (either a b)
+  either-shaped = take-shaped a b (x .shaped) (y .shaped) 8 (omega arith)
+
+  pub either-cell : (n : ℕ) → n < 8 → cell (either a b) n ≡ mix (cell a n) (cell b n)
+  either-cell n k = take-cell a b (x .shaped) (y .shaped) n k
+
+  pub either-head : SameHead (either a b) a
+  either-head = take-head a b 8
+
+  either-right : (n : ℕ) → n < 8 → rightAt v (either a b) n ≡ true
+  either-right n k =
+      let e : cellRight v (a .l) (a .b) n (cell a n) ≡ true = box-cell v a x n k in
+      let f : cellRight v (a .l) (a .b) n (cell b n) ≡ true = rw (g .l, g .b) (box-cell v b y n k) in
+      let m : cellRight v (a .l) (a .b) n (cell (either a b) n) ≡ true = rw (either-cell n k) (mix-right v (a .l) (a .b) n (cell a n) (cell b n) e f) in
+      right-cell v (either a b) n
+      ∙ ap (λ (z : ℕ). cellRight v z (either a b .b) n (cell (either a b) n)) (either-head .l)
+      ∙ ap (λ (z : ℕ). cellRight v (a .l) z n (cell (either a b) n)) (either-head .b)
+      ∙ m
+
+  either-sound : sound v (either a b) ≡ true
+  either-sound =
+      let s = box-sound v a x in
+      let h = either-head in
+      has-sound v (either a b)
+      (record {
+        low = omega (arith, s .low, h .l);
+        some = omega (arith, s .some, h .b);
+        few = omega (arith, s .few, h .b);
+        packets = all-intro (rightAt v (either a b)) 8 either-right;
+      })
+
+  either-any : anySet (either a b .held) ≡ true
+  unfolding cell heldAt
+  either-any =
+      any-more (a .held) (either a b .held) (x .shaped .long-held ∙ sym (either-shaped .long-held))
+      (λ n k e. ap (λ (c : Cell). c .0) (either-cell n (omega (arith, x .shaped .long-held))) ∙ mix-on (cell a n) (cell b n) e)
+      (holds-sound v a (x .some) .1)
+
+  pub either-box : Box v (either a b)
+  unfolding holds
+  either-box = record { shaped = either-shaped; some = rw (either-sound, either-any) }
+
+  -- what joining answers of two boxes of one group
+  pub join-is : joinOf v a b ≡ cond (agree a b) (record { answer = Done; holding = either a b }) (refusedJoin PacketDiffers)
+  unfolding joinOf
+  join-is = rw (x .some, y .some, head-group a b g)
+
+-- ---- packets that two hold do not differ
+abbrev meetCells : Cell → Cell → Bool
+meetCells x y = meets (x .0) (x .1) (y .0) (y .1)
+
+agree-cell : (a b : Holding) (n : ℕ) → agreeAt a b n ≡ meetCells (cell a n) (cell b n)
+unfolding agreeAt cell
+agree-cell a b n = refl
+
+pub agree-at : (a b : Holding) → agree a b ≡ true → (n : ℕ) → n < 8 → meetCells (cell a n) (cell b n) ≡ true
+unfolding agree
+agree-at a b e n k = sym (agree-cell a b n) ∙ all-at (agreeAt a b) 8 n e k
+
+pub meets-same : (x y : Cell) → meetCells x y ≡ true → x .0 ≡ true → y .0 ≡ true → x ≡ y
+unfolding meets
+meets-same (true, p) (true, q) e f g = ap (λ (r : Packet). (true, r)) (packets-true p q e)
+meets-same (true, p) (false, q) e f g = apart (cc)
+meets-same (false, p) y e f g = apart (cc)
+
+same-meets : (x y : Cell) → (x .0 ≡ true → y .0 ≡ true → x ≡ y) → meetCells x y ≡ true
+unfolding meets
+same-meets (true, p) (true, q) h = let e : p ≡ q = ap (λ (c : Cell). c .1) (h refl refl) in rw e (packets-refl q)
+same-meets (true, p) (false, q) h = refl
+same-meets (false, p) y h = refl
+
+-- a packet that differs is held in both
+meets-held : (x y : Cell) → meetCells x y ≡ false → (x .0 ≡ true) × (y .0 ≡ true)
+unfolding meets
+meets-held (true, p) (true, q) e = (refl, refl)
+meets-held (true, p) (false, q) e = apart (cc)
+meets-held (false, p) y e = apart (cc)
+
+pub agree-when : (a b : Holding) → ((n : ℕ) → n < 8 → heldAt a n ≡ true → heldAt b n ≡ true → cell a n ≡ cell b n) → agree a b ≡ true
+unfolding agree cell
+agree-when a b h = all-intro (agreeAt a b) 8 (λ n k. agree-cell a b n ∙ same-meets (cell a n) (cell b n) (h n k))
+
+-- ---- a list of boxes, and the holding that has every packet of theirs and no other
+pub in-left : (h : Holding) (xs ys : List Holding) → Among h xs → Among h (xs ++ ys)
+in-left h [] ys i = absurd i
+in-left h (x ∷ xs) ys i = ⊎-elim (λ (e : h ≡ x). inl e) (λ (j : Among h xs). inr (in-left h xs ys j)) i
+
+pub in-right : (h : Holding) (xs ys : List Holding) → Among h ys → Among h (xs ++ ys)
+in-right h [] ys i = i
+in-right h (x ∷ xs) ys i = inr (in-right h xs ys i)
+
+pub in-either : (h : Holding) (xs ys : List Holding) → Among h (xs ++ ys) → Among h xs ⊎ Among h ys
+in-either h [] ys i = inr i
+in-either h (x ∷ xs) ys i = ⊎-elim (λ (e : h ≡ x). inl (inl e)) (λ (j : Among h (xs ++ ys)). ⊎-elim (λ (p : Among h xs). inl (inr p)) (λ (q : Among h ys). inr q) (in-either h xs ys j)) i
+
+-- two boxes that differ in a packet
+pub record Clash (xs ys : List Holding) : Type 0 where
+  pub x : Holding
+  pub y : Holding
+  pub x-in : Among x xs
+  pub y-in : Among y ys
+  pub differ : agree x y ≡ false
+
+-- one of the boxes holds packet n
+pub record HeldBy (xs : List Holding) (n : ℕ) : Type 0 where
+  pub box : Holding
+  pub is-in : Among box xs
+  pub held : heldAt box n ≡ true
+
+pub record Sum (v : Vocoder) (xs : List Holding) (h : Holding) : Type 0 where
+  pub whole : Box v h
+  pub one-group : (a : Holding) → Among a xs → SameHead a h
+  pub kept : (a : Holding) → Among a xs → (n : ℕ) → n < 8 → heldAt a n ≡ true → cell h n ≡ cell a n
+  pub from : (n : ℕ) → n < 8 → heldAt h n ≡ true → HeldBy xs n
+
+pub sum-one : (v : Vocoder) (h : Holding) → Box v h → Sum v (h ∷ []) h
+sum-one v h x =
+    record {
+      whole = x;
+      one-group = λ a i. alone (λ (b : Holding). SameHead b h) a i (head-refl h);
+      kept = λ a i n k e. alone (λ (b : Holding). cell h n ≡ cell b n) a i refl;
+      from = λ n k e. record { box = h; is-in = inl refl; held = e };
+    }
+  where
+    alone : (P : Holding → Type 0) (a : Holding) → Among a (h ∷ []) → P h → P a
+    alone P a i p = ⊎-elim (λ (e : a ≡ h). subst P (sym e) p) (λ (e : ⊥). absurd e) i
+
+-- ---- two sums joined
+mix-first : (x y : Cell) → meetCells x y ≡ true → x .0 ≡ true → mix x y ≡ x
+unfolding meets
+mix-first (true, p) (true, q) e f = ap (λ (r : Packet). (true, r)) (sym (packets-true p q e))
+mix-first (true, p) (false, q) e f = refl
+mix-first (false, p) y e f = apart (cc)
+
+mix-second : (x y : Cell) → y .0 ≡ true → mix x y ≡ y
+mix-second x (true, q) e = refl
+mix-second x (false, q) e = apart (cc)
+
+mix-held : (x y : Cell) → mix x y .0 ≡ true → (x .0 ≡ true) ⊎ (y .0 ≡ true)
+mix-held x (true, q) e = inr refl
+mix-held x (false, q) e = inl e
+
+held-cell : (a b : Holding) (n : ℕ) → cell a n ≡ cell b n → heldAt b n ≡ true → heldAt a n ≡ true
+unfolding cell
+held-cell a b n e f = ap (λ (c : Cell). c .0) e ∙ f
+
+pub cell-on : (a : Holding) (n : ℕ) → heldAt a n ≡ true → cell a n .0 ≡ true
+unfolding cell
+cell-on a n e = e
+
+module _ (v : Vocoder) (xs ys : List Holding) (a b : Holding) (s : Sum v xs a) (t : Sum v ys b) (g : SameHead a b) where
+  -- where they agree, every packet of either is the sum of all
+  pub sum-both : agree a b ≡ true → Sum v (xs ++ ys) (either a b)
+  unfolding cell
+  sum-both e =
+      record {
+        whole = either-box v a b (s .whole) (t .whole) g;
+        one-group = λ c i. ⊎-elim (λ (j : Among c xs). first-group c j) (λ (j : Among c ys). second-group c j) (in-either c xs ys i);
+        kept = λ c i n k f. ⊎-elim (λ (j : Among c xs). first-kept c j n k f) (λ (j : Among c ys). second-kept c j n k f) (in-either c xs ys i);
+        from = λ n k f. ⊎-elim (λ (h : heldAt a n ≡ true). first-from n (s .from n k h)) (λ (h : heldAt b n ≡ true). second-from n (t .from n k h))
+            (mix-held (cell a n) (cell b n) (sym (ap (λ (c : Cell). c .0) (joined n k)) ∙ f));
+      }
+    where
+      joined : (n : ℕ) → n < 8 → cell (either a b) n ≡ mix (cell a n) (cell b n)
+      joined n k = either-cell v a b (s .whole) (t .whole) g n k
+
+      back : SameHead a (either a b)
+      back = head-sym (either a b) a (either-head v a b (s .whole) (t .whole) g)
+
+      first-group : (c : Holding) → Among c xs → SameHead c (either a b)
+      first-group c j = head-trans c a (either a b) (s .one-group c j) back
+
+      second-group : (c : Holding) → Among c ys → SameHead c (either a b)
+      second-group c j = head-trans c b (either a b) (t .one-group c j) (head-trans b a (either a b) (head-sym a b g) back)
+
+      first-kept : (c : Holding) → Among c xs → (n : ℕ) → n < 8 → heldAt c n ≡ true → cell (either a b) n ≡ cell c n
+      first-kept c j n k f =
+          let p = s .kept c j n k f in
+          joined n k ∙ mix-first (cell a n) (cell b n) (agree-at a b e n k) (held-cell a c n p f) ∙ p
+
+      second-kept : (c : Holding) → Among c ys → (n : ℕ) → n < 8 → heldAt c n ≡ true → cell (either a b) n ≡ cell c n
+      second-kept c j n k f =
+          let p = t .kept c j n k f in
+          joined n k ∙ mix-second (cell a n) (cell b n) (held-cell b c n p f) ∙ p
+
+      first-from : (n : ℕ) → HeldBy xs n → HeldBy (xs ++ ys) n
+      first-from n w = record { box = w .box; is-in = in-left (w .box) xs ys (w .is-in); held = w .held }
+
+      second-from : (n : ℕ) → HeldBy ys n → HeldBy (xs ++ ys) n
+      second-from n w = record { box = w .box; is-in = in-right (w .box) xs ys (w .is-in); held = w .held }
+
+  -- and no two of their boxes differ
+  pub sum-agree : agree a b ≡ true → (x y : Holding) → Among x xs → Among y ys → agree x y ≡ true
+  sum-agree e x y i j =
+      agree-when x y (λ n k p q.
+      let f = s .kept x i n k p in
+      let h = t .kept y j n k q in
+      sym f ∙ meets-same (cell a n) (cell b n) (agree-at a b e n k) (held-on a x n f p) (held-on b y n h q) ∙ h)
+    where
+      held-on : (c d : Holding) (n : ℕ) → cell c n ≡ cell d n → heldAt d n ≡ true → cell c n .0 ≡ true
+      held-on c d n p q = cell-on c n (held-cell c d n p q)
+
+  -- where they differ, so do two of their boxes
+  pub sum-differ : agree a b ≡ false → Clash xs ys
+  unfolding agree cell
+  sum-differ e =
+      let w = all-witness (agreeAt a b) 8 e in
+      let n = w .at in
+      let m : meetCells (cell a n) (cell b n) ≡ false = sym (agree-cell a b n) ∙ w .fails in
+      let h = meets-held (cell a n) (cell b n) m in
+      let p = s .from n (w .below) (h .0) in
+      let q = t .from n (w .below) (h .1) in
+      let f = s .kept (p .box) (p .is-in) n (w .below) (p .held) in
+      let k = t .kept (q .box) (q .is-in) n (w .below) (q .held) in
+      let z : agreeAt (p .box) (q .box) n ≡ false = agree-cell (p .box) (q .box) n ∙ ap₂ meetCells (sym f) (sym k) ∙ m in
+      record { x = p .box; y = q .box; x-in = p .is-in; y-in = q .is-in; differ = all-fails (agreeAt (p .box) (q .box)) 8 n (w .below) z }
+
+-- a sum of the same boxes is the same
+pub sum-same : (v : Vocoder) (xs ys : List Holding) (a b : Holding) → Sum v xs a → Sum v ys b → SameHead a b → ((h : Holding) → Among h xs → Among h ys) → ((h : Holding) → Among h ys → Among h xs) → a ≡ b
+unfolding cell
+sum-same v xs ys a b s t g to back = cells-ext a b (s .whole .shaped) (t .whole .shaped) g (λ n k. go n k (heldAt a n) refl (heldAt b n) refl)
+  where
+    same : (n : ℕ) → n < 8 → HeldBy xs n → cell a n ≡ cell b n
+    same n k w = s .kept (w .box) (w .is-in) n k (w .held) ∙ sym (t .kept (w .box) (to (w .box) (w .is-in)) n k (w .held))
+
+    go : (n : ℕ) → n < 8 → (p : Bool) → heldAt a n ≡ p → (q : Bool) → heldAt b n ≡ q → cell a n ≡ cell b n
+    go n k true e q f = same n k (s .from n k e)
+    go n k false e true f =
+        let w = t .from n k f in
+        same n k (record { box = w .box; is-in = back (w .box) (w .is-in); held = w .held })
+    go n k false e false f = ap₂ (λ (x : Bool) (y : Packet). (x, y)) (e ∙ sym f) (box-blank v a (s .whole) n k e ∙ sym (box-blank v b (t .whole) n k f))
+
+-- two that do not agree hold a packet, and not the same
+pub record Unlike (a b : Holding) : Type 0 where
+  pub packet : ℕ
+  pub below : packet < 8
+  pub first : heldAt a packet ≡ true
+  pub second : heldAt b packet ≡ true
+  pub differ : packetOf a packet ≡ packetOf b packet → ⊥
+
+pub unlike-at : (a b : Holding) → agree a b ≡ false → Unlike a b
+unfolding agree cell
+unlike-at a b e =
+    let w = all-witness (agreeAt a b) 8 e in
+    let n = w .at in
+    let m : meetCells (cell a n) (cell b n) ≡ false = sym (agree-cell a b n) ∙ w .fails in
+    let h = meets-held (cell a n) (cell b n) m in
+    record {
+      packet = n;
+      below = w .below;
+      first = h .0;
+      second = h .1;
+      differ = λ q. true-false (sym (same-meets (cell a n) (cell b n) (λ s t. pair (h .0 ∙ sym (h .1)) q)) ∙ m);
+    }
+  where
+    true-false : true ≡ false → ⊥
+    true-false z = apart (cc)
+
+    pair : {s t : Bool} {p q : Packet} → s ≡ t → p ≡ q → _≡_ {A = Cell} (s, p) (t, q)
+    pair i j = ap₂ (λ (x : Bool) (y : Packet). (x, y)) i j

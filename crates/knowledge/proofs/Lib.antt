@@ -1,0 +1,4 @@
+pub mod Cells
+pub mod PacketLaws
+pub mod JoinLaws
+pub mod KnowledgeLaws

@@ -1,0 +1,285 @@
+-- The frames of a packet: a packet that was laid out keeps the rule and holds its frames; a packet that keeps the rule is its frames laid out.
+-- So what is known decides what is there. Assumes nothing.
+use Prim.Native.Nat.{ℕ, zero, suc, _+_, _-_, _*_, _≤_, _<_}
+use mathlib.Core.Bool.{Bool, true, false, _&&_, _||_}
+use mathlib.Core.Path.{_≡_, refl, sym, ap, ap₂, _∙_}
+use mathlib.Core.List.{List, [], _∷_, _++_, append-assoc}
+use native.Mathlib.Omega.{arith}
+use native.Mathlib.Nat.{mul-suc}
+use lib.ListN.{length, take, drop, getD, replicate, length-take, length-drop, getD-replicate, take-append-drop, List·getD-append}
+use lib.Seq.{getD-append-add, getD-take, getD-drop, take-take, drop-drop, take-at, drop-at, drop-append-add, length-take-le, ext-getD}
+use lib.Dec.{T, eqb, ltb}
+use borrow.Author.Tests.{eqb-true, ltb-true, ltb-false, lt-ltb, le-ltb}
+use Rattle.octets.specs.Octets.{allZero, sameOctets}
+use Rattle.octets.proofs.Logic.{apart, both-true}
+use Rattle.octets.proofs.OctetLaws.{same-refl, same-true}
+use Rattle.frame.specs.Table.{Vocoder, Frame, known, size, within, erasure, erases, typesOf, Listed, AllListed}
+use Rattle.frame.specs.Places.{frameAt, noFrame, upTo}
+use Rattle.frame.proofs.TableLaws.{size-within, erasure-listed}
+use Rattle.frame.proofs.PlaceLaws.{length-upTo, upTo-at, types-at, length-types, listed-at}
+use Rattle.holding.specs.Group.{region, packetIn, erased, samePackets, markAt, mayStand, frameRight, framesRight, packetOf}
+use Rattle.holding.specs.LaidOut.{filled, rooms, laid}
+use Rattle.pouring.specs.Pouring.{frameIn}
+use Rattle.holding.specs.declared.Holding.{Holding}
+use Rattle.holding.specs.declared.Packet.{Packet}
+use Rattle.holding.proofs.GroupLaws.{all-at, all-intro, length-region, drop-take}
+use Rattle.holding.proofs.LaidLaws.{length-filled, Short, length-rooms, listed-short}
+use Rattle.knowledge.proofs.Cells.{Sized, regions-ext}
+
+-- ---- packets compared
+same-parts : {m m′ r r′ : List ℕ} → m ≡ m′ → r ≡ r′ → packetIn m r ≡ packetIn m′ r′
+same-parts e f = cc
+
+pub packets-true : (p q : Packet) → samePackets p q ≡ true → p ≡ q
+unfolding samePackets
+packets-true p q e =
+    let h = both-true (sameOctets (p .marks) (q .marks)) (sameOctets (p .room) (q .room)) e in
+    same-parts (same-true (p .marks) (q .marks) (h .0)) (same-true (p .room) (q .room) (h .1))
+
+pub packets-refl : (p : Packet) → samePackets p p ≡ true
+unfolding samePackets
+packets-refl p = rw (same-refl (p .marks), same-refl (p .room))
+
+-- ---- a list that is filled up
+filled-at : (n x : ℕ) (xs : List ℕ) (k : ℕ) → k < length xs → getD (filled n x xs) k 0 ≡ getD xs k 0
+unfolding filled
+filled-at n x xs k h = List·getD-append xs (replicate (n - length xs) x) 0 k h
+
+filled-past : (n x : ℕ) (xs : List ℕ) (k : ℕ) → length xs ≤ k → k < n → getD (filled n x xs) k 0 ≡ x
+unfolding filled
+filled-past n x xs k h l =
+    let ys = replicate (n - length xs) x in
+    let e : length xs + (k - length xs) ≡ k = omega arith in
+    ap (λ (i : ℕ). getD (xs ++ ys) i 0) (sym e) ∙ getD-append-add xs ys (k - length xs) 0 ∙ getD-replicate (n - length xs) (k - length xs) x 0 (omega arith)
+
+-- zeros are all there is
+zeros-are : (xs : List ℕ) → allZero xs ≡ true → xs ≡ replicate (length xs) 0
+unfolding allZero
+zeros-are [] e = refl
+zeros-are (x ∷ xs) e =
+    let p = both-true (eqb x 0) (allZero xs) e in
+    ap₂ (λ (y : ℕ) (ys : List ℕ). y ∷ ys) (eqb-true x 0 (p .0)) (zeros-are xs (p .1))
+
+zero-list : (n : ℕ) → allZero (replicate n 0) ≡ true
+unfolding allZero
+zero-list zero = refl
+zero-list (suc n) = zero-list n
+
+zeros-tail : (n : ℕ) (l : List ℕ) → allZero l ≡ true → allZero (drop n l) ≡ true
+unfolding allZero
+zeros-tail zero l e = e
+zeros-tail (suc n) [] e = e
+zeros-tail (suc n) (x ∷ l) e = zeros-tail n l (both-true (eqb x 0) (allZero l) e .1)
+
+-- ---- the frames of a packet that was laid out
+region-rooms : (fs : List Frame) (zs : List ℕ) (k : ℕ) → Short fs → k < length fs → take 22 (drop (22 * k) (rooms fs ++ zs)) ≡ filled 22 0 (frameAt fs k .body)
+unfolding rooms
+region-rooms [] zs k s h = absurd (omega arith)
+region-rooms (f ∷ fs) zs zero s h =
+    let r = filled 22 0 (f .body) in
+    rw (append-assoc r (rooms fs) zs) (take-at r (rooms fs ++ zs) 22 (length-filled 22 0 (f .body) (s .0)))
+region-rooms (f ∷ fs) zs (suc k) s h =
+    let r = filled 22 0 (f .body) in
+    let e : 22 * suc k ≡ length r + 22 * k = omega (arith, mul-suc 22 k, length-filled 22 0 (f .body) (s .0)) in
+    rw (append-assoc r (rooms fs) zs, e, drop-append-add r (rooms fs ++ zs) (22 * k)) (region-rooms fs zs k (s .1) (omega arith))
+
+module _ (fs : List Frame) (few : length fs ≤ 10) (s : Short fs) where
+  pub laid-sized : Sized (laid fs)
+  unfolding laid
+  laid-sized =
+      record {
+        ten = length-filled 10 erasure (typesOf fs) (omega (arith, length-types fs));
+        bodies = length-filled 220 0 (rooms fs) (omega (arith, length-rooms fs s));
+      }
+
+  pub laid-mark : (k : ℕ) → k < length fs → markAt (laid fs) k ≡ frameAt fs k .type
+  unfolding laid markAt
+  laid-mark k h = filled-at 10 erasure (typesOf fs) k (omega (arith, length-types fs)) ∙ types-at fs k
+
+  pub laid-mark-past : (k : ℕ) → length fs ≤ k → k < 10 → markAt (laid fs) k ≡ erasure
+  unfolding laid markAt
+  laid-mark-past k h l = filled-past 10 erasure (typesOf fs) k (omega (arith, length-types fs)) l
+
+  pub laid-room : (k : ℕ) → k < length fs → region (laid fs .room) 22 k ≡ filled 22 0 (frameAt fs k .body)
+  unfolding laid region filled
+  laid-room k h = region-rooms fs (replicate (220 - length (rooms fs)) 0) k s h
+
+  pub laid-room-past : (k : ℕ) → length fs ≤ k → k < 10 → region (laid fs .room) 22 k ≡ replicate 22 0
+  unfolding laid region
+  laid-room-past k h l =
+      let rs = filled 220 0 (rooms fs) in
+      let n : length rs ≡ 220 = length-filled 220 0 (rooms fs) (omega (arith, length-rooms fs s)) in
+      let long : length (take 22 (drop (22 * k) rs)) ≡ 22 = simp (length-take, length-drop) (omega arith) in
+      ext-getD 0 (take 22 (drop (22 * k) rs)) (replicate 22 0) long
+      (λ i j.
+      let hi : i < 22 = omega arith in
+      getD-take 22 (drop (22 * k) rs) i 0 hi ∙ getD-drop (22 * k) rs i 0
+      ∙ filled-past 220 0 (rooms fs) (22 * k + i) (omega (arith, length-rooms fs s)) (omega arith)
+      ∙ sym (getD-replicate 22 i 0 0 hi))
+
+-- ---- it keeps the rule
+may-below : (b k t : ℕ) → k < b → mayStand b k t ≡ true
+unfolding mayStand
+may-below b k t h = simp (lt-ltb k b h)
+
+may-past : (b k : ℕ) → b ≤ k → mayStand b k erasure ≡ true
+unfolding mayStand
+may-past b k h = simp (le-ltb k b h)
+
+filled-tail : (n : ℕ) (xs : List ℕ) (z : ℕ) → length xs ≡ z → allZero (drop z (filled n 0 xs)) ≡ true
+unfolding filled
+filled-tail n xs z e = rw (drop-at xs (replicate (n - length xs) 0) z e) (zero-list (n - length xs))
+
+right-when : (v : Vocoder) (b k t : ℕ) (r : List ℕ) (p : Packet) → markAt p k ≡ t → region (p .room) 22 k ≡ r → known v t ≡ true → mayStand b k t ≡ true → allZero (drop (size v t) r) ≡ true → frameRight v b p k ≡ true
+unfolding frameRight
+right-when v b k t r p e f g h i = rw (e, f, g, h, i)
+
+pub laid-right : (v : Vocoder) → T (within 22 v) → T (erases v) → (fs : List Frame) → length fs ≤ 10 → AllListed v fs → framesRight v (length fs) (laid fs) ≡ true
+unfolding framesRight
+laid-right v w z fs few a = all-intro (frameRight v (length fs) (laid fs)) 10 (λ k h. go k h (ltb k (length fs)) refl)
+  where
+    s : Short fs
+    s = listed-short v w fs a
+
+    -- the room of frame k past its body
+    tail : (k : ℕ) → k < length fs → allZero (drop (size v (frameAt fs k .type)) (filled 22 0 (frameAt fs k .body))) ≡ true
+    tail k h =
+        let b = frameAt fs k .body in
+        filled-tail 22 b (size v (frameAt fs k .type)) (listed-at v fs k a h .octets)
+
+    go : (k : ℕ) → k < 10 → (t : Bool) → ltb k (length fs) ≡ t → frameRight v (length fs) (laid fs) k ≡ true
+    go k h true q =
+        let i : k < length fs = ltb-true k (length fs) q in
+        right-when v (length fs) k (frameAt fs k .type) (filled 22 0 (frameAt fs k .body)) (laid fs) (laid-mark fs few s k i) (laid-room fs few s k i)
+        (listed-at v fs k a i .type-known) (may-below (length fs) k (frameAt fs k .type) i) (tail k i)
+    go k h false q =
+        let i : length fs ≤ k = ltb-false k (length fs) q in
+        right-when v (length fs) k erasure (replicate 22 0) (laid fs) (laid-mark-past fs few s k i h) (laid-room-past fs few s k i h)
+        (erasure-listed v z .0) (may-past (length fs) k i) (zeros-tail (size v erasure) (replicate 22 0) (zero-list 22))
+
+-- ---- a packet that keeps the rule is its frames laid out
+listed-snoc : (v : Vocoder) (fs : List Frame) (f : Frame) → AllListed v fs → Listed v f → AllListed v (fs ++ (f ∷ []))
+listed-snoc v [] f a x = (x, tt)
+listed-snoc v (g ∷ fs) f a x = (a .0, listed-snoc v fs f (a .1) x)
+
+listed-upTo : (v : Vocoder) (f : ℕ → Frame) (n : ℕ) → ((k : ℕ) → k < n → Listed v (f k)) → AllListed v (upTo f n)
+unfolding upTo
+listed-upTo v f zero h = tt
+listed-upTo v f (suc n) h = listed-snoc v (upTo f n) (f n) (listed-upTo v f n (λ k q. h k (omega arith))) (h n (omega arith))
+
+unfoldable pub frameOf : Vocoder → Packet → ℕ → Frame
+frameOf v p k = record { type = markAt p k; body = take (size v (markAt p k)) (region (p .room) 22 k) }
+
+-- what the rule says of frame k
+record Right (v : Vocoder) (b : ℕ) (p : Packet) (k : ℕ) : Type 0 where
+  type-known : known v (markAt p k) ≡ true
+  stands : mayStand b k (markAt p k) ≡ true
+  clear : allZero (drop (size v (markAt p k)) (region (p .room) 22 k)) ≡ true
+
+frame-right : (v : Vocoder) (b : ℕ) (p : Packet) (k : ℕ) → frameRight v b p k ≡ true → Right v b p k
+unfolding frameRight
+frame-right v b p k e =
+    let t = markAt p k in
+    let z = allZero (drop (size v t) (region (p .room) 22 k)) in
+    let x = both-true (known v t && mayStand b k t) z e in
+    let y = both-true (known v t) (mayStand b k t) (x .0) in
+    record { type-known = y .0; stands = y .1; clear = x .1 }
+
+past-erased : (b k t : ℕ) → mayStand b k t ≡ true → b ≤ k → t ≡ erasure
+unfolding mayStand
+past-erased b k t e h = eqb-true t erasure (go (ltb k b) (le-ltb k b h) e)
+  where
+    go : (s : Bool) → s ≡ false → s || eqb t erasure ≡ true → eqb t erasure ≡ true
+    go true p q = apart (cc)
+    go false p q = q
+
+-- a room whose rest is zero is its body, filled up
+room-filled : (r : List ℕ) (n z : ℕ) → length r ≡ n → z ≤ n → allZero (drop z r) ≡ true → r ≡ filled n 0 (take z r)
+unfolding filled
+room-filled r n z l h e =
+    let a : length (take z r) ≡ z = length-take-le z r (omega arith) in
+    let b : length (drop z r) ≡ n - length (take z r) = omega (arith, length-drop z r) in
+    sym (take-append-drop z r) ∙ ap (λ (x : List ℕ). take z r ++ x) (zeros-are (drop z r) e ∙ ap (λ (i : ℕ). replicate i 0) b)
+
+module _ (v : Vocoder) (w : T (within 22 v)) (z : T (erases v)) (b : ℕ) (few : b ≤ 10) (p : Packet) (s : Sized p) (right : framesRight v b p ≡ true) where
+  abbrev ours : List Frame
+  ours = upTo (frameOf v p) b
+
+  right-at : (k : ℕ) → k < 10 → Right v b p k
+  unfolding framesRight
+  right-at k h = frame-right v b p k (all-at (frameRight v b p) 10 k right h)
+
+  our-frame : (k : ℕ) → k < b → frameAt ours k ≡ frameOf v p k
+  our-frame k h = upTo-at (frameOf v p) b k noFrame h
+
+  room-long : (k : ℕ) → k < 10 → length (region (p .room) 22 k) ≡ 22
+  room-long k h = length-region (p .room) 22 k (omega (arith, s .bodies))
+
+  our-listed-at : (k : ℕ) → k < b → Listed v (frameOf v p k)
+  unfolding frameOf
+  our-listed-at k h =
+      record {
+        type-known = right-at k (omega arith) .type-known;
+        octets = length-take-le (size v (markAt p k)) (region (p .room) 22 k) (omega (arith, room-long k (omega arith), size-within 22 v (markAt p k) w));
+      }
+
+  pub right-listed : AllListed v ours
+  right-listed = listed-upTo v (frameOf v p) b our-listed-at
+
+  short-ours : Short ours
+  short-ours = listed-short v w ours right-listed
+
+  many : length ours ≡ b
+  many = length-upTo (frameOf v p) b
+
+  mark-same : (k : ℕ) → k < 10 → (t : Bool) → ltb k b ≡ t → markAt p k ≡ markAt (laid ours) k
+  unfolding frameOf
+  mark-same k h true q =
+      let i : k < b = ltb-true k b q in
+      sym (laid-mark ours (omega (arith, many)) short-ours k (omega (arith, many)) ∙ ap (λ (f : Frame). f .type) (our-frame k i))
+  mark-same k h false q =
+      let i : b ≤ k = ltb-false k b q in
+      past-erased b k (markAt p k) (right-at k h .stands) i ∙ sym (laid-mark-past ours (omega (arith, many)) short-ours k (omega (arith, many)) h)
+
+  room-same : (k : ℕ) → k < 10 → (t : Bool) → ltb k b ≡ t → region (p .room) 22 k ≡ region (laid ours .room) 22 k
+  unfolding frameOf
+  room-same k h true q =
+      let i : k < b = ltb-true k b q in
+      room-filled (region (p .room) 22 k) 22 (size v (markAt p k)) (room-long k h) (size-within 22 v (markAt p k) w) (right-at k h .clear)
+      ∙ sym (laid-room ours (omega (arith, many)) short-ours k (omega (arith, many)) ∙ ap (λ (f : Frame). filled 22 0 (f .body)) (our-frame k i))
+  room-same k h false q =
+      let i : b ≤ k = ltb-false k b q in
+      let e : size v (markAt p k) ≡ 0 = ap (size v) (past-erased b k (markAt p k) (right-at k h .stands) i) ∙ erasure-listed v z .1 in
+      let c : allZero (region (p .room) 22 k) ≡ true = rw e at (right-at k h .clear) in
+      zeros-are (region (p .room) 22 k) c ∙ ap (λ (n : ℕ). replicate n 0) (room-long k h)
+      ∙ sym (laid-room-past ours (omega (arith, many)) short-ours k (omega (arith, many)) h)
+
+  pub right-laid : p ≡ laid ours
+  unfolding markAt
+  right-laid =
+      let y = laid-sized ours (omega (arith, many)) short-ours in
+      let m : p .marks ≡ laid ours .marks = ext-getD 0 (p .marks) (laid ours .marks) (s .ten ∙ sym (y .ten)) (λ k h. mark-same k (omega (arith, s .ten)) (ltb k b) refl) in
+      let r : p .room ≡ laid ours .room = regions-ext 10 22 (p .room) (laid ours .room) (s .bodies) (y .bodies) (λ k h. room-same k h (ltb k b) refl) in
+      same-parts m r
+
+-- ---- frame k of packet n of a holding is frame k of that packet
+pub frame-in : (v : Vocoder) → T (within 22 v) → (h : Holding) (n k : ℕ) → k < 10 → frameIn v (h .marks) (h .room) n k ≡ frameOf v (packetOf h n) k
+unfolding frameIn frameOf packetOf region markAt
+frame-in v w h n k l =
+    let t = getD (h .marks) (10 * n + k) 0 in
+    let m : getD (take 10 (drop (10 * n) (h .marks))) k 0 ≡ t = getD-take 10 (drop (10 * n) (h .marks)) k 0 l ∙ getD-drop (10 * n) (h .marks) k 0 in
+    let z : size v t ≤ 22 = size-within 22 v t w in
+    let q : take (size v t) (take 22 (drop (22 * k) (take 220 (drop (220 * n) (h .room))))) ≡ take (size v t) (drop (220 * n + 22 * k) (h .room)) =
+    take-take (size v t) 22 (drop (22 * k) (take 220 (drop (220 * n) (h .room)))) z
+    ∙ ap (take (size v t)) (drop-take (22 * k) 220 (drop (220 * n) (h .room)))
+    ∙ take-take (size v t) (220 - 22 * k) (drop (22 * k) (drop (220 * n) (h .room))) (omega arith)
+    ∙ ap (take (size v t)) (drop-drop (22 * k) (220 * n) (h .room)) in
+    rw (m, q)
+
+-- a packet that is not held has erasures
+pub erased-frame : (v : Vocoder) → T (erases v) → (k : ℕ) → k < 10 → frameOf v erased k ≡ record { type = erasure; body = [] }
+unfolding frameOf erased markAt
+erased-frame v z k h =
+    let m : getD (replicate {A = ℕ} 10 erasure) k 0 ≡ erasure = getD-replicate 10 k erasure 0 h in
+    let e : size v (getD (replicate {A = ℕ} 10 erasure) k 0) ≡ 0 = ap (size v) m ∙ erasure-listed v z .1 in
+    rw (e, m)

@@ -1,0 +1,102 @@
+-- What is known of a payload that was read as a packet, in either form. Assumes nothing.
+use Prim.Native.Nat.{ℕ, _+_, _≤_, _<_}
+use mathlib.Core.Path.{_≡_, refl, sym, ap, subst, _∙_}
+use mathlib.Core.List.{List, [], _∷_}
+use mathlib.Core.Bool.{Bool, true, false, cond}
+use native.Mathlib.Omega.{arith}
+use lib.ListN.{length, drop, length-drop}
+use lib.Seq.{length-take-le}
+use lib.Dec.{T, eqb, leb}
+use Rattle.octets.proofs.Logic.{apart}
+use Rattle.frame.specs.Table.{Vocoder, Frame, known, size, rowWith, rowOfSize, single, AllListed}
+use Rattle.frame.specs.Entry.{typeOf, dOf, more}
+use Rattle.frame.specs.declared.Limits.{Limits}
+use Rattle.frame.specs.declared.Lookup.{Lookup}
+use Rattle.frame.specs.declared.Lookup.the-variants.{Found, Missing}
+use Rattle.frame.specs.declared.Form.{Form}
+use Rattle.frame.specs.declared.Form.the-variants.{HeaderFree, Interleaved}
+use Rattle.frame.specs.declared.Refusal.the-variants.{TooManyFrames, ReservedType}
+use Rattle.frame.proofs.TableLaws.{size-listed}
+use Rattle.frame.proofs.AgreedLaws.{range-bounds}
+use Rattle.payload.specs.Payload.{packet, Table, table, fault, put, toc, total, cut, oneBody, readAs}
+use Rattle.payload.proofs.Laying.{Framed, framed}
+use Rattle.payload.proofs.Checks.{length-cut}
+
+-- ---- the types of a table of contents that was read are in the frame table
+abbrev TypesKnown : Vocoder → List ℕ → Type 0
+TypesKnown v [] = Unit {0}
+TypesKnown v (t ∷ ts) = (known v t ≡ true) × TypesKnown v ts
+
+abbrev KnownIn : Vocoder → Table → Type 0
+KnownIn v (table ts d rest) = TypesKnown v ts
+KnownIn v (fault r) = Unit {0}
+
+put-known : (v : Vocoder) (t : ℕ) (w : Table) → known v t ≡ true → KnownIn v w → KnownIn v (put t w)
+put-known v t (table ts d rest) k h = (k, h)
+put-known v t (fault r) k h = tt
+
+entry-known : (v : Vocoder) (e : ℕ) (es : List ℕ) (w : Table) (full good on : Bool) → known v (typeOf e) ≡ good → KnownIn v w → KnownIn v (cond full (fault TooManyFrames) (cond good (cond on (put (typeOf e) w) (table (typeOf e ∷ []) (dOf e) es)) (fault ReservedType)))
+entry-known v e es w true good on k h = tt
+entry-known v e es w false false on k h = tt
+entry-known v e es w false true true k h = put-known v (typeOf e) w k h
+entry-known v e es w false true false k h = (k, tt)
+
+toc-known : (v : Vocoder) (max at : ℕ) (es : List ℕ) → KnownIn v (toc v max at es)
+unfolding toc
+toc-known v max at [] = tt
+toc-known v max at (e ∷ es) =
+    entry-known v e es (toc v max (at + 1) es) (leb max at) (known v (typeOf e)) (more e) refl (toc-known v max (at + 1) es)
+
+cut-listed : (v : Vocoder) (ts bs : List ℕ) → TypesKnown v ts → total v ts ≤ length bs → AllListed v (cut v ts bs)
+cut-listed v [] bs k h = tt
+cut-listed v (t ∷ ts) bs k h = (
+  record { type-known = k .0; octets = length-take-le (size v t) bs (omega arith) },
+  cut-listed v ts (drop (size v t) bs) (k .1) (omega (arith, length-drop (size v t) bs)),
+)
+
+-- ---- L, N, B and the frames of a packet that was read
+pub record IsPacket (v : Vocoder) (l n : ℕ) (fs : List Frame) : Type 0 where
+  pub length-small : l ≤ 7
+  pub index-in : n ≤ l
+  pub some : 0 < length fs
+  pub few : length fs ≤ 10
+  pub listed : AllListed v fs
+
+interleaved-is : (v : Vocoder) (m : Limits) (p : List ℕ) (l n d : ℕ) (fs : List Frame) → Framed v m p l n d fs → IsPacket v l n fs
+interleaved-is v m p l n d fs o =
+    let k : TypesKnown v (o .ts) = subst (KnownIn v) (o .toc-is) (toc-known v (m .«max_b») 0 (o .es)) in
+    let c : length fs ≡ length (o .ts) = ap length (o .frames) ∙ length-cut v (o .ts) (o .rest) in
+    let b = range-bounds m (o .range) in
+    record {
+      length-small = omega (arith, o .l-is);
+      index-in = omega (arith, o .l-is, o .n-is, o .index);
+      some = omega (arith, o .whole .some);
+      few = omega (arith, o .whole .few, b .2);
+      listed = subst (AllListed v) (sym (o .frames)) (cut-listed v (o .ts) (o .rest) k (omega (arith, o .full)));
+    }
+
+one-is : (v : Vocoder) (p : List ℕ) → T (single v v) → (w : Lookup) → rowOfSize v (length p) ≡ w → (l n d : ℕ) (fs : List Frame) → oneBody w p ≡ packet l n d fs → IsPacket v l n fs
+unfolding oneBody
+one-is v p s Missing q l n d fs e = apart (cc)
+one-is v p s (Found r) q l n d fs e =
+    let x = size-listed v v (length p) r s (with-row (eqb (length p) 0) q) in
+    let el : 0 ≡ l = cc in
+    let en : 0 ≡ n = cc in
+    let ef : record { type = r .kind; body = p } ∷ [] ≡ fs = cc in
+    let c : 1 ≡ length fs = ap length ef in
+    record {
+      length-small = omega arith;
+      index-in = omega arith;
+      some = omega arith;
+      few = omega arith;
+      listed = subst (AllListed v) ef (record { type-known = x .0; octets = sym (x .1) }, tt);
+    }
+  where
+    with-row : (b : Bool) → cond b Missing (rowWith v (length p)) ≡ Found r → rowWith v (length p) ≡ Found r
+    with-row true h = apart (cc)
+    with-row false h = h
+
+pub read-is : (v : Vocoder) → T (single v v) → (f : Form) (p : List ℕ) (l n d : ℕ) (fs : List Frame) → readAs v f p ≡ packet l n d fs → IsPacket v l n fs
+unfolding readAs
+read-is v s HeaderFree p l n d fs e = one-is v p s (rowOfSize v (length p)) refl l n d fs e
+read-is v s (Interleaved m) p l n d fs e = interleaved-is v m p l n d fs (framed v m p l n d fs e)

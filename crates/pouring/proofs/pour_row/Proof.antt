@@ -1,0 +1,140 @@
+-- `pouring::pour_row` meets its contract. The invariant: the entries of the packets before n are written.
+use Prim.Native.Nat.{_+_, _-_, _*_, _≤_}
+use mathlib.Core.Path.{_≡_, refl, sym, _∙_}
+use native.Mathlib.Nat.{add-zero}
+use native.Mathlib.Omega.{arith}
+use lib.ListN.{length-set}
+use lib.ListN.{length, getD}
+use denote.Ref.{now}
+use borrow.Author.Needs.{needs}
+use Rattle.recording.specs.Entries.{entriesOf}
+use Rattle.frame.proofs.TableLaws.{evrc-size}
+use Rattle.frame.specs.Table.{evrc}
+use Rattle.octets.specs.Octets.{over}
+use Rattle.pouring.specs.Pouring.{row, rowSize}
+use Rattle.pouring.proofs.PourLaws.{length-piece}
+use Rattle.pouring.proofs.PourLaws.{row-size-more, row-size-grows, row-more, row-none}
+use Rattle.pouring.proofs.pour_row.Statement.{statement}
+use Rattle.pouring.proofs.pour_row.Tie as tie
+
+abbrev Inv-loop : tie.InvT-loop
+Inv-loop marks room m k out₀ at next₀ n₀ out next n = (n ≤ m) × (length out ≡ length out₀) × (next ≡ at + rowSize evrc marks k n) × (out ≡ over out₀ at (entriesOf (row evrc marks room k n)))
+
+abbrev μ-loop : tie.MeasureT-loop
+μ-loop marks room m k out₀ at next₀ n₀ out next n = m - n
+
+loop-holds : tie.Need-loop-holds Inv-loop μ-loop
+unfolding rowSize
+loop-holds c = (omega arith, refl, sym (add-zero _), row-none _ _ _ _ _ _)
+
+mul-at-mark : tie.Need-mul-at-mark Inv-loop μ-loop
+mul-at-mark c = omega (arith, c .before .before .before .before .before .pre .2)
+
+add-at-mark : tie.Need-add-at-mark Inv-loop μ-loop
+add-at-mark c = omega (arith, c .before .before .before .before .before .pre .2, c .before .before .before .before .before .pre .3)
+
+shared-slice-read-mark : tie.Need-shared-slice-read-mark Inv-loop μ-loop
+shared-slice-read-mark c = omega (arith, c .before .before .before .before .before .before .pre .0, c .before .before .before .before .before .before .pre .2, c .before .before .before .before .before .before .pre .3)
+
+body-size-requires : tie.Need-body-size-requires Inv-loop μ-loop
+body-size-requires c κs = search needs
+
+mul-from : tie.Need-mul-from Inv-loop μ-loop
+mul-from c = omega (arith, c .before .before .before .before .before .before .before .pre .2)
+
+mul-from-2 : tie.Need-mul-from-2 Inv-loop μ-loop
+mul-from-2 c = omega (arith, c .before .before .before .before .before .before .before .pre .3)
+
+add-from : tie.Need-add-from Inv-loop μ-loop
+add-from c = omega (arith, c .before .before .before .before .before .before .before .pre .2, c .before .before .before .before .before .before .before .pre .3)
+
+slice-write-out : tie.Need-slice-write-out Inv-loop μ-loop
+slice-write-out c =
+    let g = row-size-grows evrc (now (c .before .before .before .before .before .before .before .args .marks)) (c .before .before .before .before .before .before .before .args .k) (c .before .before .before .loop .n) (c .before .before .before .before .before .before .before .args .m) (omega arith) in
+    omega (arith, c .before .before .before .before .before .before .before .pre .4, c .before .before .before .loop .inv .1, c .before .before .before .loop .inv .2)
+
+add-copy : tie.Need-add-copy Inv-loop μ-loop
+add-copy c =
+    let g = row-size-grows evrc (now (c .before .before .before .before .before .before .before .before .args .marks)) (c .before .before .before .before .before .before .before .before .args .k) (c .before .before .before .before .loop .n) (c .before .before .before .before .before .before .before .before .args .m) (omega arith) in
+    omega (arith, c .before .before .before .before .before .before .before .before .pre .4, c .before .before .before .before .loop .inv .1, c .before .before .before .before .loop .inv .2)
+
+add-copy-2 : tie.Need-add-copy-2 Inv-loop μ-loop
+add-copy-2 c = let z : c .before .body-size .result ≤ 22 = rw (c .before .body-size .ensures) (evrc-size _) in omega (arith, c .before .before .before .before .before .before .before .before .pre .2, c .before .before .before .before .before .before .before .before .pre .3)
+
+sub-copy : tie.Need-sub-copy Inv-loop μ-loop
+sub-copy c = omega arith
+
+part-copy-start : tie.Need-part-copy-start Inv-loop μ-loop
+part-copy-start c = omega arith
+
+part-copy-end : tie.Need-part-copy-end Inv-loop μ-loop
+part-copy-end c = let z : c .before .body-size .result ≤ 22 = rw (c .before .body-size .ensures) (evrc-size _) in omega (arith, c .before .before .before .before .before .before .before .before .pre .1, c .before .before .before .before .before .before .before .before .pre .2, c .before .before .before .before .before .before .before .before .pre .3)
+
+copy-requires : tie.Need-copy-requires Inv-loop μ-loop
+copy-requires c κs =
+    let g = row-size-grows evrc (now (c .before .before .before .before .before .before .before .before .before .args .marks)) (c .before .before .before .before .before .before .before .before .before .args .k) (c .before .before .before .before .before .loop .n) (c .before .before .before .before .before .before .before .before .before .args .m) (omega arith) in
+    let s = length-set (c .before .before .before .before .before .loop .out) (c .before .before .before .before .before .loop .next) (getD (now (c .before .before .before .before .before .before .before .before .before .args .marks)) (10 * c .before .before .before .before .before .loop .n + c .before .before .before .before .before .before .before .before .before .args .k) 0) in
+    let z = length-piece (now (c .before .before .before .before .before .before .before .before .before .args .room)) (220 * c .before .before .before .before .before .loop .n + 22 * c .before .before .before .before .before .before .before .before .before .args .k) (c .before .before .body-size .result) in
+    omega (arith, c .before .before .before .before .before .before .before .before .before .pre .4, c .before .before .before .before .before .loop .inv .1, c .before .before .before .before .before .loop .inv .2, c .before .before .body-size .ensures)
+
+add-next : tie.Need-add-next Inv-loop μ-loop
+add-next c =
+    let g = row-size-grows evrc (now (c .before .before .before .before .before .before .before .before .before .before .before .before .args .marks)) (c .before .before .before .before .before .before .before .before .before .before .before .before .args .k) (c .before .before .before .before .before .before .before .before .loop .n) (c .before .before .before .before .before .before .before .before .before .before .before .before .args .m) (omega arith) in
+    omega (arith, c .before .before .before .before .before .before .before .before .before .before .before .before .pre .4, c .before .before .before .before .before .before .before .before .loop .inv .1, c .before .before .before .before .before .before .before .before .loop .inv .2)
+
+add-next-2 : tie.Need-add-next-2 Inv-loop μ-loop
+add-next-2 c =
+    let g = row-size-grows evrc (now (c .before .before .before .before .before .before .before .before .before .before .before .before .args .marks)) (c .before .before .before .before .before .before .before .before .before .before .before .before .args .k) (c .before .before .before .before .before .before .before .before .loop .n) (c .before .before .before .before .before .before .before .before .before .before .before .before .args .m) (omega arith) in
+    omega (arith, c .before .before .before .before .before .before .before .before .before .before .before .before .pre .4, c .before .before .before .before .before .before .before .before .loop .inv .1, c .before .before .before .before .before .before .before .before .loop .inv .2, c .before .before .before .before .before .body-size .ensures)
+
+add-n : tie.Need-add-n Inv-loop μ-loop
+add-n c = omega (arith, c .before .before .before .before .before .before .before .before .before .before .before .before .pre .2)
+
+loop-less : tie.Need-loop-less Inv-loop μ-loop
+loop-less c = omega arith
+
+loop-again : tie.Need-loop-again Inv-loop μ-loop
+loop-again c =
+    let g = row-size-grows evrc (now (c .before .before .before .before .before .before .before .before .before .before .before .before .args .marks)) (c .before .before .before .before .before .before .before .before .before .before .before .before .args .k) (c .before .before .before .before .before .before .before .before .loop .n) (c .before .before .before .before .before .before .before .before .before .before .before .before .args .m) (omega arith) in
+    let s = length-set (c .before .before .before .before .before .before .before .before .loop .out) (c .before .before .before .before .before .before .before .before .loop .next) (getD (now (c .before .before .before .before .before .before .before .before .before .before .before .before .args .marks)) (10 * c .before .before .before .before .before .before .before .before .loop .n + c .before .before .before .before .before .before .before .before .before .before .before .before .args .k) 0) in
+    let e = row-size-more evrc (now (c .before .before .before .before .before .before .before .before .before .before .before .before .args .marks)) (c .before .before .before .before .before .before .before .before .before .before .before .before .args .k) (c .before .before .before .before .before .before .before .before .loop .n) _ _ refl (c .before .before .before .before .before .body-size .ensures) in (
+      omega arith,
+      c .before .before .copy .kept .0 ∙ s ∙ c .before .before .before .before .before .before .before .before .loop .inv .1,
+      omega (arith, c .before .before .before .before .before .before .before .before .loop .inv .2),
+      row-more evrc tt _ _ (c .before .before .before .before .before .before .before .before .before .before .before .before .pre .1) (c .before .before .before .before .before .before .before .before .before .before .before .before .args .k) (c .before .before .before .before .before .before .before .before .loop .n) (omega (arith, c .before .before .before .before .before .before .before .before .before .before .before .before .pre .2)) (c .before .before .before .before .before .before .before .before .before .before .before .before .pre .3) _ _ _ _ _ _ (omega (arith, c .before .before .before .before .before .before .before .before .before .before .before .before .pre .4)) (omega (arith, c .before .before .before .before .before .before .before .before .before .before .before .before .pre .4, c .before .before .before .before .before .before .before .before .loop .inv .1, c .before .before .before .before .before .before .before .before .loop .inv .2)) (c .before .before .before .before .before .before .before .before .loop .inv .2) (c .before .before .before .before .before .before .before .before .loop .inv .3) (c .before .before .before .before .before .body-size .ensures) (c .before .before .copy .ensures),
+    )
+
+same-length : tie.Need-same-length Inv-loop μ-loop
+same-length c = c .before .loop .inv .1
+
+returns : tie.Need-returns Inv-loop μ-loop
+returns c = let e : c .before .loop .n ≡ c .before .before .before .before .before .args .m = omega arith in (rw e at (c .before .loop .inv .2), rw e at (c .before .loop .inv .3))
+
+pub pour-row-spec : {M : Type 1} → statement M
+pour-row-spec =
+    tie.close
+    (tie.spec
+    Inv-loop
+    μ-loop
+    loop-holds
+    mul-at-mark
+    add-at-mark
+    shared-slice-read-mark
+    body-size-requires
+    mul-from
+    mul-from-2
+    add-from
+    slice-write-out
+    add-copy
+    add-copy-2
+    sub-copy
+    part-copy-start
+    part-copy-end
+    copy-requires
+    add-next
+    add-next-2
+    add-n
+    loop-less
+    loop-again
+    same-length
+    returns)

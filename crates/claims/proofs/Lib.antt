@@ -4,4 +4,5 @@ pub mod RecordingClaims
 pub mod PacketTrips
 pub mod PacketBack
 pub mod JoiningClaims
+pub mod SessionClaims
 pub mod Outcomes

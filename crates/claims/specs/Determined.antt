@@ -9,6 +9,7 @@ use contract.Lifetimes.{Lfts}
 use borrow.Fn.Kinds.{PK, RK, Dens, resT, endedOf, Out}
 use Rattle.landing.specs.Host.{PacketTold, packetTold, PlaceTold, placeTold, CountTold, countTold, WriteTold, writeTold}
 use Rattle.frame.specs.declared.Written.{Written}
+use Rattle.session.specs.declared.Session.{Session}
 use Rattle.octets.proofs.copy.Kinds as octets-copy-kinds
 use Rattle.octets.proofs.copy.Reads as octets-copy
 use Rattle.octets.proofs.same.Kinds as octets-same-kinds
@@ -79,6 +80,24 @@ use Rattle.holding.proofs.base_sequence.Kinds as holding-base-sequence-kinds
 use Rattle.holding.proofs.base_sequence.Reads as holding-base-sequence
 use Rattle.holding.proofs.base_timestamp.Kinds as holding-base-timestamp-kinds
 use Rattle.holding.proofs.base_timestamp.Reads as holding-base-timestamp
+use Rattle.holding.proofs.begin.Kinds as holding-begin-kinds
+use Rattle.holding.proofs.begin.Reads as holding-begin
+use Rattle.holding.proofs.is_empty.Kinds as holding-is-empty-kinds
+use Rattle.holding.proofs.is_empty.Reads as holding-is-empty
+use Rattle.session.proofs.closed.Kinds as session-closed-kinds
+use Rattle.session.proofs.closed.Reads as session-closed
+use Rattle.session.proofs.«open».Kinds as session-open-kinds
+use Rattle.session.proofs.«open».Reads as session-open
+use Rattle.session.proofs.is_open.Kinds as session-is-open-kinds
+use Rattle.session.proofs.is_open.Reads as session-is-open
+use Rattle.session.proofs.offer.Kinds as session-offer-kinds
+use Rattle.session.proofs.offer.Reads as session-offer
+use Rattle.session.proofs.pour.Kinds as session-pour-kinds
+use Rattle.session.proofs.pour.Reads as session-pour
+use Rattle.session.proofs.copy_out.Kinds as session-copy-out-kinds
+use Rattle.session.proofs.copy_out.Reads as session-copy-out
+use Rattle.session.proofs.end.Kinds as session-end-kinds
+use Rattle.session.proofs.end.Reads as session-end
 use Rattle.holding.proofs.empty.Kinds as holding-empty-kinds
 use Rattle.holding.proofs.empty.Reads as holding-empty
 use Rattle.holding.proofs.packet_in.Kinds as holding-packet-in-kinds
@@ -160,3 +179,12 @@ pub record Determined : Type 0 where
   pub holdingHoldsPacket : AnswerFixed 0 holding-holds-packet-kinds.ps holding-holds-packet-kinds.r holding-holds-packet.Post
   pub joiningJoin : AnswerFixed 0 joining-join-kinds.ps joining-join-kinds.r joining-join.Post
   pub pouringPour : OutcomeFixed 1 pouring-pour-kinds.ps pouring-pour-kinds.r pouring-pour.Post (Written × List ℕ) (λ κs x s. (x, now (s .1 .0)))
+  pub holdingBegin : AnswerFixed 0 holding-begin-kinds.ps holding-begin-kinds.r holding-begin.Post
+  pub holdingIsEmpty : AnswerFixed 0 holding-is-empty-kinds.ps holding-is-empty-kinds.r holding-is-empty.Post
+  pub sessionClosed : AnswerFixed 0 session-closed-kinds.ps session-closed-kinds.r session-closed.Post
+  pub sessionOpen : AnswerFixed 0 session-open-kinds.ps session-open-kinds.r session-open.Post
+  pub sessionIsOpen : AnswerFixed 0 session-is-open-kinds.ps session-is-open-kinds.r session-is-open.Post
+  pub sessionOffer : AnswerFixed 1 session-offer-kinds.ps session-offer-kinds.r session-offer.Post
+  pub sessionPour : OutcomeFixed 1 session-pour-kinds.ps session-pour-kinds.r session-pour.Post (Written × Session × List ℕ) (λ κs x s. (x .answer, x .session, now (s .1 .0)))
+  pub sessionCopyOut : AnswerFixed 0 session-copy-out-kinds.ps session-copy-out-kinds.r session-copy-out.Post
+  pub sessionEnd : AnswerFixed 0 session-end-kinds.ps session-end-kinds.r session-end.Post

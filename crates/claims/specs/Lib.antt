@@ -3,4 +3,5 @@ pub mod Payloads
 pub mod Recordings
 pub mod Packets
 pub mod Joinings
+pub mod Sessions
 pub mod Determined

@@ -10,14 +10,14 @@ use native.Mathlib.Nat.{le-of-suc-le-suc, not-suc-le-zero, eq-or-lt-of-le, sub-z
 use lib.Seq.{take-nil, drop-drop}
 use lib.ListN.{length, take, drop, getD, length-take, length-drop}
 use lib.Dec.{eqb, leb}
-use borrow.Author.Tests.{lt-ltb, le-ltb, le-leb, lt-leb, leb-true}
-use Rattle.octets.specs.Octets.{allZero, anySet}
+use borrow.Author.Tests.{eq-eqb, ne-eqb, lt-ltb, le-ltb, le-leb, lt-leb, leb-true}
+use Rattle.octets.specs.Octets.{allZero, anySet, sameOctets}
 use Rattle.octets.proofs.Logic.{both-true, both-false}
 use Rattle.frame.specs.Table.{Vocoder, rowOf, known, erasure}
 use Rattle.frame.specs.declared.Row.{Row}
 use Rattle.frame.specs.declared.Lookup.the-variants.{Found, Missing}
 use Rattle.frame.proofs.TableLaws.{found-known, found-size}
-use Rattle.holding.specs.Group.{allBelow, region, packetIn, erased, samePackets, markAt, mayStand, frameRight, framesRight, heldAt, packetOf, packetRight, rightAt, sound, holds}
+use Rattle.holding.specs.Group.{allBelow, region, packetIn, erased, nothing, blank, isNothing, samePackets, markAt, mayStand, frameRight, framesRight, heldAt, packetOf, packetRight, rightAt, sound, holds}
 use Rattle.holding.specs.declared.Holding.{Holding}
 use Rattle.holding.specs.declared.Packet.{Packet}
 
@@ -175,3 +175,45 @@ has-sound v h s = simp (le-leb _ _ (s .low), le-leb _ _ (s .some), le-leb _ _ (s
 pub holds-sound : (v : Vocoder) (h : Holding) → holds v h ≡ true → (sound v h ≡ true) × (anySet (h .held) ≡ true)
 unfolding holds
 holds-sound v h e = both-true (sound v h) (anySet (h .held)) e
+
+-- ---- a holding of nothing, test by test
+module _ (h : Holding) where
+  pub has-source : (h .source ≡ 0 → ⊥) → false ≡ isNothing h
+  unfolding isNothing
+  has-source n = simp (ne-eqb _ _ n)
+
+  module _ (a : h .source ≡ 0) where
+    pub has-sequence : (h .sequence ≡ 0 → ⊥) → false ≡ isNothing h
+    unfolding isNothing
+    has-sequence n = simp (eq-eqb _ _ a, ne-eqb _ _ n)
+
+    module _ (b : h .sequence ≡ 0) where
+      pub has-timestamp : (h .timestamp ≡ 0 → ⊥) → false ≡ isNothing h
+      unfolding isNothing
+      has-timestamp n = simp (eq-eqb _ _ a, eq-eqb _ _ b, ne-eqb _ _ n)
+
+      module _ (c : h .timestamp ≡ 0) where
+        pub has-length : (h .l ≡ 0 → ⊥) → false ≡ isNothing h
+        unfolding isNothing
+        has-length n = simp (eq-eqb _ _ a, eq-eqb _ _ b, eq-eqb _ _ c, ne-eqb _ _ n)
+
+        module _ (d : h .l ≡ 0) where
+          pub has-bundle : (h .b ≡ 0 → ⊥) → false ≡ isNothing h
+          unfolding isNothing
+          has-bundle n = simp (eq-eqb _ _ a, eq-eqb _ _ b, eq-eqb _ _ c, eq-eqb _ _ d, ne-eqb _ _ n)
+
+          pub is-blank : h .b ≡ 0 → blank h ≡ isNothing h
+          unfolding isNothing
+          is-blank e = simp (eq-eqb _ _ a, eq-eqb _ _ b, eq-eqb _ _ c, eq-eqb _ _ d, eq-eqb _ _ e)
+
+  pub blank-held : anySet (h .held) ≡ true → false ≡ blank h
+  unfolding blank
+  blank-held e = simp e
+
+  pub blank-marked : anySet (h .held) ≡ false → (t : Bool) → t ≡ sameOctets (h .marks) (nothing .marks) → t ≡ false → false ≡ blank h
+  unfolding blank
+  blank-marked e t q f = simp (e, sym q ∙ f)
+
+  pub blank-room : anySet (h .held) ≡ false → (t : Bool) → t ≡ sameOctets (h .marks) (nothing .marks) → t ≡ true → allZero (h .room) ≡ blank h
+  unfolding blank
+  blank-room e t q f = simp (e, sym q ∙ f)

@@ -1,7 +1,7 @@
 -- Document 01, "Groups": a holding is one group as far as heard, over any frame table.
 -- Frame k of packet n has its type at marks 10 n + k and its body in the 22 octets from 220 n + 22 k on: a packet is one region.
 use Prim.Native.Nat.{ℕ, zero, suc, _+_, _*_}
-use mathlib.Core.Bool.{Bool, true, false, cond, _&&_, _||_}
+use mathlib.Core.Bool.{Bool, true, false, not, cond, _&&_, _||_}
 use mathlib.Core.List.{List}
 use lib.ListN.{take, drop, getD, set, replicate}
 use lib.Dec.{eqb, leb, ltb}
@@ -49,19 +49,32 @@ framesRight v b p = allBelow (frameRight v b p) 10
 
 -- ---- a holding
 
--- nothing held
-unfoldable pub nothing : Holding
-nothing =
+-- a group of which no packet is held yet
+unfoldable pub begun : ℕ → ℕ → ℕ → ℕ → ℕ → Holding
+begun source sequence timestamp l b =
     record {
-      source = 0;
-      sequence = 0;
-      timestamp = 0;
-      l = 0;
-      b = 0;
+      source = source;
+      sequence = sequence;
+      timestamp = timestamp;
+      l = l;
+      b = b;
       held = replicate 8 false;
       marks = replicate 80 erasure;
       room = replicate 1760 0;
     }
+
+-- nothing held
+unfoldable pub nothing : Holding
+nothing = begun 0 0 0 0 0
+
+-- no packet is held, every place reads as an erasure, and all room is zero
+unfoldable pub blank : Holding → Bool
+blank h = not (anySet (h .held)) && (sameOctets (h .marks) (nothing .marks) && allZero (h .room))
+
+-- a holding is that of nothing, as a test
+unfoldable pub isNothing : Holding → Bool
+isNothing h =
+    eqb (h .source) 0 && (eqb (h .sequence) 0 && (eqb (h .timestamp) 0 && (eqb (h .l) 0 && (eqb (h .b) 0 && blank h))))
 
 unfoldable pub heldAt : Holding → ℕ → Bool
 heldAt h n = getD (h .held) n false

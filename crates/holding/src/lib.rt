@@ -10,7 +10,7 @@ ghost use lib.ListN.{length};
 ghost use Rattle.frame.specs.Table.{evrc};
 ghost use Rattle.payload.specs.Payload.{readAs};
 ghost use Rattle.holding.specs.Bases.{baseSequence, baseTimestamp};
-ghost use Rattle.holding.specs.Group.{packetIn, erased, samePackets, mayStand, frameRight, framesRight, nothing, heldAt, packetOf, withPacket, packetRight, rightAt, allBelow, sound, holds};
+ghost use Rattle.holding.specs.Group.{packetIn, erased, samePackets, mayStand, frameRight, framesRight, nothing, begun, blank, isNothing, heldAt, packetOf, withPacket, packetRight, rightAt, allBelow, sound, holds};
 ghost use Rattle.holding.specs.LaidOut.{laid, framesRead};
 
 // One group as far as heard. Frame k of packet n has its type at marks[10 * n + k] and its body at room[220 * n + 22 * k ..].
@@ -63,23 +63,72 @@ fn no_room() -> [u8; 1760]
     [0u8; 1760]
 }
 
-// A holding of nothing.
-pub fn empty() -> Holding
-    ensures { λ r. ⌜ r ≡ nothing ⌝ }
+// A group of which no packet is held yet.
+pub fn begin(source: u32, sequence: u16, timestamp: u32, l: u8, b: u8) -> Holding
+    ensures { λ r. ⌜ r ≡ begun source sequence timestamp l b ⌝ }
 {
     let held = [false; 8];
     let marks = no_marks();
     let room = no_room();
     Holding {
-        source: 0,
-        sequence: 0,
-        timestamp: 0,
-        l: 0,
-        b: 0,
+        source,
+        sequence,
+        timestamp,
+        l,
+        b,
         held,
         marks,
         room,
     }
+}
+
+// A holding of nothing.
+pub fn empty() -> Holding
+    ensures { λ r. ⌜ r ≡ nothing ⌝ }
+{
+    begin(0, 0, 0, 0, 0)
+}
+
+// Whether the flags, marks and room of h are those of a holding of nothing.
+fn is_blank(h: Holding) -> bool
+    ensures { λ r. ⌜ r ≡ blank h ⌝ }
+{
+    let held = h.held;
+    let some = octets::any(&held);
+    if some {
+        return false;
+    }
+    let marks = h.marks;
+    let none = no_marks();
+    let erased = octets::same(&marks, &none);
+    if erased {
+        let room = h.room;
+        octets::zeros(&room)
+    } else {
+        false
+    }
+}
+
+// Whether h is a holding of nothing.
+pub fn is_empty(h: Holding) -> bool
+    ensures { λ r. ⌜ r ≡ isNothing h ⌝ }
+{
+    if h.source != 0 {
+        return false;
+    }
+    if h.sequence != 0 {
+        return false;
+    }
+    if h.timestamp != 0 {
+        return false;
+    }
+    if h.l != 0 {
+        return false;
+    }
+    if h.b != 0 {
+        return false;
+    }
+    is_blank(h)
 }
 
 // A packet that is not held: erasures, and room of zeros.

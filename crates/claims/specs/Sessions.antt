@@ -1,0 +1,111 @@
+-- Demand 1 and document 01, "Session": what holds of every session. Over any frame table.
+use Prim.Native.Nat.{ℕ, _+_, _*_}
+use mathlib.Core.Path.{_≡_}
+use mathlib.Core.List.{List, [], _∷_}
+use mathlib.Core.Bool.{true, false, cond, _&&_}
+use lib.ListN.{length}
+use denote.Triple.Clauses.{AtExit}
+use contract.Lifetimes.{Lfts}
+use borrow.Fn.Kinds.{Dens, resT, endedOf}
+use Rattle.session.proofs.end.Kinds as session-end-kinds
+use Rattle.session.proofs.end.Reads as session-end
+use Rattle.frame.specs.Table.{Vocoder, Frame}
+use Rattle.frame.specs.Outputs.{octets}
+use Rattle.frame.specs.declared.Form.{Form}
+use Rattle.frame.specs.declared.Refusal.{Refusal}
+use Rattle.frame.specs.declared.Refusal.the-variants.{AnotherSource, ContradictsGroup, LaterGroup, EarlierGroup, NotApplicable}
+use Rattle.payload.specs.Payload.{packet, readAs}
+use Rattle.holding.specs.Bases.{minus, baseSequence, baseTimestamp}
+use Rattle.holding.specs.Group.{isNothing, heldAt, packetOf}
+use Rattle.holding.specs.LaidOut.{laid}
+use Rattle.pouring.specs.Pouring.{inTime, poured}
+use Rattle.holding.specs.declared.Holding.{Holding}
+use Rattle.session.specs.Session.{never, fresh, formRight, opening, isOpen, refuse, accept, begins, inGroup, arrival, offered}
+use Rattle.session.specs.declared.Session.{Session}
+use Rattle.session.specs.declared.Arrival.{Arrival}
+use Rattle.session.specs.declared.Taken.the-variants.{Accepted, Refused}
+
+-- "Every refused offer leaves the session as it was."
+unfoldable pub RefusedOfferChangesNothing : Type 0
+RefusedOfferChangesNothing =
+    (v : Vocoder) (s : Session) (source sequence timestamp : ℕ) (p : List ℕ) (r : Refusal) →
+    offered v s source sequence timestamp p .answer ≡ Refused r → offered v s source sequence timestamp p .session ≡ s
+
+-- a packet from another source is answered 10, whatever its payload holds
+unfoldable pub AnotherSourceIs10 : Type 0
+AnotherSourceIs10 =
+    (v : Vocoder) (s : Session) → isOpen v s ≡ true → (source sequence timestamp : ℕ) → (source ≡ s .source → ⊥) →
+    (p : List ℕ) → offered v s source sequence timestamp p ≡ refuse s AnotherSource
+
+-- its payload is not looked at: two such offers that differ in it alone are answered alike
+unfoldable pub AnotherSourcesWordsAreNotHeard : Type 0
+AnotherSourcesWordsAreNotHeard =
+    (v : Vocoder) (s : Session) (source sequence timestamp : ℕ) → (source ≡ s .source → ⊥) →
+    (p q : List ℕ) → offered v s source sequence timestamp p ≡ offered v s source sequence timestamp q
+
+-- an opening forgets: what the session was before it does not matter
+unfoldable pub OpeningForgets : Type 0
+OpeningForgets =
+    (s t : Session) (source : ℕ) (form : Form) → formRight form ≡ true →
+    (opening s source form ≡ opening t source form) × (opening s source form .session ≡ fresh source form)
+
+-- an ending forgets: whatever the session was, it is one never opened (over the contract of `session::end` itself)
+unfoldable pub EndingForgets : Type 0
+EndingForgets =
+    (κs : Lfts 0) (a : Dens κs session-end-kinds.ps) (x : resT session-end-kinds.r κs .Denot)
+    (s : AtExit (endedOf 0 session-end-kinds.ps session-end-kinds.r) κs) → session-end.Post κs a x s → x ≡ never
+
+-- a session never opened, or ended, takes nothing: 21 whatever is offered
+unfoldable pub EndedTakesNothing : Type 0
+EndedTakesNothing =
+    (v : Vocoder) (source sequence timestamp : ℕ) (p : List ℕ) → offered v never source sequence timestamp p ≡ refuse never NotApplicable
+
+-- so the next skipper's words meet no old group: the first packet that is read begins a group of its own, and nothing is lost before it
+unfoldable pub FirstPacketBeginsAlone : Type 0
+FirstPacketBeginsAlone =
+    (v : Vocoder) (source : ℕ) (form : Form) → formRight form ≡ true → (sequence timestamp : ℕ) (p : List ℕ) (l n d : ℕ) (fs : List Frame) →
+    readAs v form p ≡ packet l n d fs →
+    offered v (fresh source form) source sequence timestamp p ≡ begins (fresh source form) (arrival sequence timestamp l n fs) 0
+
+-- a packet that the session holds already: of the held group, its numbers the same, its frames those that are held
+pub record Repeat (v : Vocoder) (s : Session) (sequence timestamp l n : ℕ) (fs : List Frame) : Type 0 where
+  pub some : isNothing (s .group) ≡ false
+  pub base : minus 16 (baseSequence sequence n) (s .group .sequence) ≡ 0
+  pub time : baseTimestamp timestamp n ≡ s .group .timestamp
+  pub same-length : l ≡ s .group .l
+  pub same-bundle : length fs ≡ s .group .b
+  pub held : heldAt (s .group) n ≡ true
+  pub frames : packetOf (s .group) n ≡ laid fs
+
+-- a repeat is accepted and changes nothing, whatever the D and RR of its payload
+unfoldable pub RepeatChangesNothing : Type 0
+RepeatChangesNothing =
+    (v : Vocoder) (s : Session) → isOpen v s ≡ true → (sequence timestamp l n d : ℕ) (fs : List Frame) → Repeat v s sequence timestamp l n fs →
+    (p : List ℕ) → readAs v (s .form) p ≡ packet l n d fs → offered v s (s .source) sequence timestamp p ≡ accept s 0
+
+-- the lost frames that an accepted packet of base b reports: e x B of the poured group, if it begins a group after one
+abbrev pub lostBefore : Session → ℕ → ℕ
+lostBefore s b =
+    cond (isNothing (s .group) && s .poured) (minus 16 b (s .«last_sequence» + (s .«last_l» + 1)) * s .«last_b») 0
+
+unfoldable pub LostFramesByFormula : Type 0
+LostFramesByFormula =
+    (v : Vocoder) (s : Session) (source sequence timestamp : ℕ) (p : List ℕ) (l n d : ℕ) (fs : List Frame) →
+    readAs v (s .form) p ≡ packet l n d fs → (lost : ℕ) → offered v s source sequence timestamp p .answer ≡ Accepted lost →
+    lost ≡ lostBefore s (baseSequence sequence n)
+
+-- the octets of the bodies of frames
+abbrev pub bodyOctets : List Frame → ℕ
+bodyOctets [] = 0
+bodyOctets (f ∷ fs) = length (f .body) + bodyOctets fs
+
+-- the octet count of a poured holding: an octet for each place, and the bodies
+unfoldable pub OctetCountByFormula : Type 0
+OctetCountByFormula =
+    (v : Vocoder) (h : Holding) (w : List ℕ) → poured v h ≡ octets w → length w ≡ length (inTime v h) + bodyOctets (inTime v h)
+
+-- P15: "held base FFFF, L 1: new base 0001 is 12, 0000 is 11, FFFE is 13"
+pub record P15 : Type 0 where
+  pub later : (s : Session) (a : Arrival) → s .group .sequence ≡ 65535 → s .group .l ≡ 1 → a .sequence ≡ 1 → inGroup s a ≡ refuse s LaterGroup
+  pub inside : (s : Session) (a : Arrival) → s .group .sequence ≡ 65535 → s .group .l ≡ 1 → a .sequence ≡ 0 → inGroup s a ≡ refuse s ContradictsGroup
+  pub earlier : (s : Session) (a : Arrival) → s .group .sequence ≡ 65535 → s .group .l ≡ 1 → a .sequence ≡ 65534 → inGroup s a ≡ refuse s EarlierGroup

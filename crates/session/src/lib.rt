@@ -1,0 +1,418 @@
+// Sessions (document 01, "Session"): open, offer, pour, copy out, end. A session is carried by value.
+use frame::Form;
+use frame::Limits;
+use frame::Opened;
+use frame::Refusal;
+use frame::Written;
+use holding::Answer;
+use holding::Holding;
+use holding::Packet;
+use payload::Contents;
+ghost use mathlib.Core.Path.{_≡_};
+ghost use Prim.Native.Nat.{_<_, _≤_};
+ghost use Rattle.frame.specs.Table.{evrc};
+ghost use Rattle.frame.specs.Outputs.{Writes};
+ghost use Rattle.session.specs.Session.{vacant, never, formRight, opening, lastRight, groupRight, isOpen, refuse, accept, withGroup, sameBase, inGroup, begins, noGroup, placed, offered, pourMade, ended, afterPour, noCopy, copied};
+
+// A session: the source and the agreed form it was opened for, the group it holds (a holding of nothing if it holds none), and
+// the numbers of the last group it poured, if it poured one.
+pub struct Session {
+    pub open: bool,
+    pub source: u32,
+    pub form: Form,
+    pub group: Holding,
+    pub poured: bool,
+    pub last_sequence: u16,
+    pub last_l: u8,
+    pub last_b: u8,
+}
+
+// A packet that was read, with the base numbers of its group.
+pub struct Arrival {
+    pub sequence: u16,
+    pub timestamp: u32,
+    pub l: u8,
+    pub n: u8,
+    pub b: u8,
+    pub packet: Packet,
+}
+
+// What an offer answers: accepted, with the lost frames before it, or the refusal.
+pub enum Taken {
+    Accepted(usize),
+    Refused(Refusal),
+}
+
+pub struct Offered {
+    pub answer: Taken,
+    pub session: Session,
+}
+
+pub struct Started {
+    pub answer: Answer,
+    pub session: Session,
+}
+
+pub struct Poured {
+    pub answer: Written,
+    pub session: Session,
+}
+
+// The holding that was copied out; one of nothing where it was refused.
+pub struct Copied {
+    pub answer: Answer,
+    pub holding: Holding,
+}
+
+// A session that holds no group and remembers none.
+fn blank(open: bool, source: u32, form: Form) -> Session
+    ensures { λ r. ⌜ r ≡ vacant «open» source form ⌝ }
+{
+    let group = holding::empty();
+    Session {
+        open,
+        source,
+        form,
+        group,
+        poured: false,
+        last_sequence: 0,
+        last_l: 0,
+        last_b: 0,
+    }
+}
+
+// A session never opened.
+pub fn closed() -> Session
+    ensures { λ r. ⌜ r ≡ never ⌝ }
+{
+    blank(false, 0, Form::HeaderFree)
+}
+
+// Whether the maxima of a form are in range.
+fn is_form_right(form: Form) -> bool
+    ensures { λ r. ⌜ r ≡ formRight form ⌝ }
+{
+    match form {
+        Form::HeaderFree => true,
+        Form::Interleaved(limits) => {
+            let found = Limits::open(limits.max_l, limits.max_b);
+            match found {
+                Opened::Agreed(_) => true,
+                Opened::Refused(_) => false,
+            }
+        }
+    }
+}
+
+// Opens a session for a source, in the agreed form: fresh, whatever it was before; 21 if a maximum is out of range.
+pub fn open(session: Session, source: u32, form: Form) -> Started
+    ensures { λ r. ⌜ r ≡ opening session source form ⌝ }
+{
+    let right = is_form_right(form);
+    if right {
+        let begun = blank(true, source, form);
+        Started {
+            answer: Answer::Done,
+            session: begun,
+        }
+    } else {
+        Started {
+            answer: Answer::Refused(Refusal::NotApplicable),
+            session,
+        }
+    }
+}
+
+// Whether L and B of the last poured group are in range, if there is one.
+fn is_last_right(session: Session) -> bool
+    ensures { λ r. ⌜ r ≡ lastRight session ⌝ }
+{
+    if session.poured {
+        if 7 < session.last_l {
+            return false;
+        }
+        if session.last_b < 1 {
+            return false;
+        }
+        return session.last_b <= 10;
+    }
+    true
+}
+
+// Whether the held group keeps the rule of a holding, holds a packet and names the session's source, if there is one.
+fn is_group_right(session: Session) -> bool
+    ensures { λ r. ⌜ r ≡ groupRight evrc session ⌝ }
+{
+    let group = session.group;
+    let vacant = holding::is_empty(group);
+    if vacant {
+        return true;
+    }
+    let some = holding::holds_packet(group);
+    if some {
+        return group.source == session.source;
+    }
+    false
+}
+
+// Whether a session counts as open.
+pub fn is_open(session: Session) -> bool
+    ensures { λ r. ⌜ r ≡ isOpen evrc session ⌝ }
+{
+    if session.open {
+        let form = session.form;
+        let right = is_form_right(form);
+        if right {
+            let last = is_last_right(session);
+            if last {
+                return is_group_right(session);
+            }
+        }
+    }
+    false
+}
+
+fn refused(session: Session, reason: Refusal) -> Offered
+    ensures { λ r. ⌜ r ≡ refuse session reason ⌝ }
+{
+    Offered {
+        answer: Taken::Refused(reason),
+        session,
+    }
+}
+
+fn accepted(session: Session, lost: usize) -> Offered
+    ensures { λ r. ⌜ r ≡ accept session lost ⌝ }
+{
+    Offered {
+        answer: Taken::Accepted(lost),
+        session,
+    }
+}
+
+// The session with another group held.
+fn holding_group(session: Session, group: Holding) -> Session
+    ensures { λ r. ⌜ r ≡ withGroup session group ⌝ }
+{
+    let mut next = session;
+    next.group = group;
+    next
+}
+
+// A packet of the held group: put in, the same again, or refused.
+fn put_in(session: Session, arrival: Arrival) -> Offered
+    requires { ⌜ arrival .n < 8 ⌝ }
+    ensures { λ r. ⌜ r ≡ sameBase session arrival ⌝ }
+{
+    let group = session.group;
+    if arrival.l != group.l {
+        return refused(session, Refusal::ContradictsGroup);
+    }
+    if arrival.b != group.b {
+        return refused(session, Refusal::ContradictsGroup);
+    }
+    if arrival.timestamp != group.timestamp {
+        return refused(session, Refusal::ContradictsGroup);
+    }
+    let n = arrival.n as usize;
+    let held = holding::is_held(group, n);
+    if held {
+        let same = holding::same_packet(group, n, arrival.packet);
+        if same {
+            return accepted(session, 0);
+        }
+        return refused(session, Refusal::PacketDiffers);
+    }
+    let more = holding::with_packet(group, n, arrival.packet);
+    accepted(holding_group(session, more), 0)
+}
+
+// A packet where a group is held: its distance from the held group decides.
+fn place_in_group(session: Session, arrival: Arrival) -> Offered
+    requires { ⌜ arrival .n < 8 ⌝ }
+    ensures { λ r. ⌜ r ≡ inGroup session arrival ⌝ }
+{
+    let group = session.group;
+    let distance = std::num::wrapping_sub_u16(arrival.sequence, group.sequence);
+    if distance == 0 {
+        return put_in(session, arrival);
+    }
+    let length = group.l as u16;
+    if distance <= length {
+        return refused(session, Refusal::ContradictsGroup);
+    }
+    if distance <= 32767 {
+        return refused(session, Refusal::LaterGroup);
+    }
+    refused(session, Refusal::EarlierGroup)
+}
+
+// A packet that begins a group.
+fn begin_group(session: Session, arrival: Arrival, lost: usize) -> Offered
+    requires { ⌜ arrival .n < 8 ⌝ }
+    ensures { λ r. ⌜ r ≡ begins session arrival lost ⌝ }
+{
+    let none = holding::begin(
+        session.source,
+        arrival.sequence,
+        arrival.timestamp,
+        arrival.l,
+        arrival.b,
+    );
+    let n = arrival.n as usize;
+    let group = holding::with_packet(none, n, arrival.packet);
+    accepted(holding_group(session, group), lost)
+}
+
+// A packet where no group is held: its distance from the end of the last poured group decides, if there is one.
+fn place_alone(session: Session, arrival: Arrival) -> Offered
+    requires { ⌜ arrival .n < 8 ⌝ }
+    ensures { λ r. ⌜ r ≡ noGroup session arrival ⌝ }
+{
+    if session.poured {
+        let length = session.last_l as u16 + 1;
+        let next = std::num::wrapping_add_u16(session.last_sequence, length);
+        let distance = std::num::wrapping_sub_u16(arrival.sequence, next);
+        if 32768 <= distance {
+            return refused(session, Refusal::EarlierGroup);
+        }
+        if 100 < distance {
+            return refused(session, Refusal::TooFarAhead);
+        }
+        let lost = distance as usize * session.last_b as usize;
+        return begin_group(session, arrival, lost);
+    }
+    begin_group(session, arrival, 0)
+}
+
+fn place(session: Session, arrival: Arrival) -> Offered
+    requires { ⌜ arrival .n < 8 ⌝ }
+    ensures { λ r. ⌜ r ≡ placed session arrival ⌝ }
+{
+    let group = session.group;
+    let vacant = holding::is_empty(group);
+    if vacant {
+        place_alone(session, arrival)
+    } else {
+        place_in_group(session, arrival)
+    }
+}
+
+// Offers a packet: accepted, with the lost frames before it; or refused, and the session is as it was.
+pub fn offer(
+    session: Session,
+    source: u32,
+    sequence: u16,
+    timestamp: u32,
+    payload: &[u8],
+) -> Offered
+    ensures { λ r. ⌜ r ≡ offered evrc session source sequence timestamp (now (payload .entry)) ⌝ }
+{
+    let ready = is_open(session);
+    if !ready {
+        return refused(session, Refusal::NotApplicable);
+    }
+    if source != session.source {
+        return refused(session, Refusal::AnotherSource);
+    }
+    let form = session.form;
+    let contents = payload::read(form, payload);
+    match contents {
+        Contents::Refused(reason) => refused(session, reason),
+        Contents::Packet { l, n, b, d: _ } => {
+            let packet = holding::packet_in(form, payload);
+            let arrival = Arrival {
+                sequence: holding::base_sequence(sequence, n),
+                timestamp: holding::base_timestamp(timestamp, n),
+                l,
+                n,
+                b,
+                packet,
+            };
+            place(session, arrival)
+        }
+    }
+}
+
+// The session after its group was poured.
+fn after_group(session: Session) -> Session
+    ensures { λ r. ⌜ r ≡ ended session ⌝ }
+{
+    let group = session.group;
+    let form = session.form;
+    let none = holding::empty();
+    Session {
+        open: session.open,
+        source: session.source,
+        form,
+        group: none,
+        poured: true,
+        last_sequence: group.sequence,
+        last_l: group.l,
+        last_b: group.b,
+    }
+}
+
+// Pours the held group into out and ends it; or refused, and session and output are as they were.
+pub fn pour(session: Session, out: &mut [u8]) -> Poured
+    ensures { λ r. ⌜ Writes (pourMade evrc session) (now (out .entry)) (r .answer) (now (out .exit)) × (r .session ≡ afterPour session (r .answer)) ⌝ }
+{
+    let ready = is_open(session);
+    if !ready {
+        return Poured {
+            answer: Written::Refused(Refusal::NotApplicable),
+            session,
+        };
+    }
+    let group = session.group;
+    let written = pouring::pour(group, out);
+    match written {
+        Written::Refused(reason) => Poured {
+            answer: Written::Refused(reason),
+            session,
+        },
+        Written::Octets(count) => {
+            let next = after_group(session);
+            Poured {
+                answer: Written::Octets(count),
+                session: next,
+            }
+        }
+    }
+}
+
+fn no_copy() -> Copied
+    ensures { λ r. ⌜ r ≡ noCopy ⌝ }
+{
+    let none = holding::empty();
+    Copied {
+        answer: Answer::Refused(Refusal::NotApplicable),
+        holding: none,
+    }
+}
+
+// The held group, copied out; 21 where the session is not open or holds none.
+pub fn copy_out(session: Session) -> Copied
+    ensures { λ r. ⌜ r ≡ copied evrc session ⌝ }
+{
+    let ready = is_open(session);
+    if !ready {
+        return no_copy();
+    }
+    let group = session.group;
+    let none_held = holding::is_empty(group);
+    if none_held {
+        return no_copy();
+    }
+    Copied {
+        answer: Answer::Done,
+        holding: group,
+    }
+}
+
+// Ends a session: nothing of it is left. Never refused.
+pub fn end(_session: Session) -> Session
+    ensures { λ r. ⌜ r ≡ never ⌝ }
+{
+    closed()
+}

@@ -18,9 +18,21 @@
 //! where COMMAND starts it: its path alone, or an emulator and its path. N is
 //! the seed of the inputs. The status is 0 if the last line says that nothing
 //! differs, else 1, or 2 for other words than these.
+//!
+//! Sessions and holdings are compared by scripts (see `script`), which this
+//! program makes and answers without the library; `desk` has the words:
+//!
+//! ```text
+//! compare script        < SCRIPT > ANSWERS
+//! compare assemble      < TEXT   > SCRIPT
+//! compare listing       < TEXT
+//! compare slips         < SCRIPT
+//! compare random-script SEED LENGTH > SCRIPT
+//! ```
 
 mod calls;
 mod comparison;
+mod desk;
 mod inputs;
 mod library;
 mod packets;
@@ -29,6 +41,7 @@ mod payloads;
 mod reached;
 mod recordings;
 mod report;
+mod script;
 mod trial;
 mod trips;
 
@@ -46,8 +59,11 @@ const SEED: u64 = 20_261_115;
 fn main() -> ExitCode {
     let words: Vec<OsString> = env::args_os().skip(1).collect();
     let Some((seed, command, words)) = asked(&words) else {
-        eprintln!("usage: compare [--seed N] -- COMMAND [WORDS..]");
-        return ExitCode::from(2);
+        return desk::serve(&words).unwrap_or_else(|| {
+            eprintln!("usage: compare [--seed N] -- COMMAND [WORDS..]");
+            eprintln!("{}", desk::USAGE);
+            ExitCode::from(2)
+        });
     };
     let mut report = Report::default();
     if let Err(fault) = compare(seed, command, words, &mut report) {

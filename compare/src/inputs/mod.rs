@@ -6,6 +6,7 @@ mod octets;
 pub mod packets;
 pub mod payloads;
 pub mod recordings;
+pub mod scripts;
 
 /// Kinds of inputs: the name of each, and what makes one.
 type Kinds<T> = [(&'static str, fn(&mut Rng) -> T)];

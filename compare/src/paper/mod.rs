@@ -8,11 +8,18 @@
 mod entries;
 mod form;
 pub mod frames;
+mod groups;
+pub mod holding;
+pub mod joining;
 pub mod packets;
 pub mod payload;
+mod place;
 pub mod recordings;
 mod room;
+pub mod session;
 mod slip;
+#[cfg(test)]
+mod tests;
 
 pub use form::{Form, Limits};
 pub use slip::Slip;

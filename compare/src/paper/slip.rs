@@ -145,4 +145,69 @@ slips! {
         HeaderFreeOfNone => "the header-free writer takes no entry",
         HeaderFreeEntryWritten => "the header-free writer writes the entry octet too",
     }
+
+    /// In groups.
+    GROUPS {
+        BaseSequenceStopsAtZero => "a base sequence number stops at 0",
+        BaseTimestampStopsAtZero => "a base timestamp stops at 0",
+        BaseTimestampAsGiven => "the base timestamp is the packet's own",
+        SequencesComparedPlainly => "sequence numbers are compared as plain numbers",
+        EFromBase => "e is counted from the poured group's base",
+        ElevenOneTooFew => "d of L is 12",
+        ElevenOneTooMany => "d of L + 1 is 11",
+        DThirteenOneLate => "d of 32,768 is 12",
+        DThirteenOneEarly => "d of 32,767 is 13",
+        EThirteenOneLate => "e of 32,768 is 16",
+        EThirteenOneEarly => "e of 32,767 is 13",
+        GapOf100Refused => "e of 100 is 16",
+        GapOf101Taken => "e of 101 begins a group",
+    }
+
+    /// In what a holding keeps and how it is poured.
+    HOLDING {
+        PouredPacketAfterPacket => "a group is poured packet after packet",
+        NotHeldPouredAsBlank => "a place not held is poured as a Blank",
+        NotHeldLeftOut => "a place not held is left out",
+        RepeatPutIn => "a packet held already is put in again",
+        RepeatNotCompared => "a packet held already is not compared",
+        LaterPacketsDropped => "packets after a group's first are accepted and not put in",
+        OnlyTypesCompared => "bodies are not compared",
+        OnlyBodiesCompared => "types are not compared",
+    }
+
+    /// In sessions.
+    SESSION {
+        RefusedOpeningEnds => "a refused opening ends the session",
+        OpenNotOpenedAgain => "opening an open session answers 21",
+        OpeningKeepsGroup => "opening an open session keeps what it heard",
+        EndingKeepsGroup => "ending a session keeps what it heard",
+        PayloadBeforeSource => "1 to 9 come before 10",
+        AnySourceTaken => "another source is accepted",
+        BrokenPayloadEndsGroup => "1 to 9 drop the held group",
+        TwelveEndsGroup => "12 drops the held group",
+        ThirteenEndsGroup => "13 drops what was heard",
+        RepeatWithDRefused => "a packet with D set differs from the held one",
+        FourteenBeforeEleven => "14 comes before 11",
+        ElevenNotByL => "another L is accepted in a group",
+        ElevenNotByB => "another B is accepted in a group",
+        ElevenNotByTimestamp => "another base timestamp is accepted in a group",
+        LostByNewB => "lost frames are counted by the new group's B",
+        LostPacketsCounted => "lost packets are reported, not frames",
+        LostNeverReported => "lost frames are never reported",
+        PouringKeepsGroup => "pouring does not end the group",
+        PouringForgetsGroup => "the poured group is not remembered",
+        RefusedPouringEndsGroup => "15 ends the group",
+        CopyingEndsGroup => "copying out ends the group",
+    }
+
+    /// In joining.
+    JOINING {
+        JoinedWithNothing => "a holding of no packet joins with any",
+        JoinedOverSources => "holdings of two sources are joined",
+        JoinedOverSequences => "holdings of two base sequence numbers are joined",
+        JoinedOverTimestamps => "holdings of two base timestamps are joined",
+        JoinedOverL => "holdings of two L are joined",
+        JoinedOverB => "holdings of two B are joined",
+        FourteenBeforeTwenty => "14 comes before 20",
+    }
 }

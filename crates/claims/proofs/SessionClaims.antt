@@ -27,7 +27,7 @@ use Rattle.session.specs.declared.Arrival.{Arrival}
 use Rattle.session.specs.declared.Offered.{Offered}
 use Rattle.session.specs.declared.Taken.the-variants.{Accepted, Refused}
 use Rattle.knowledge.proofs.PacketLaws.{packets-refl}
-use Rattle.claims.specs.Sessions.{RefusedOfferChangesNothing, AnotherSourceIs10, AnotherSourcesWordsAreNotHeard, OpeningForgets, EndingForgets, EndedTakesNothing, FirstPacketBeginsAlone, RepeatChangesNothing, lostBefore, LostFramesByFormula, bodyOctets, OctetCountByFormula, P15}
+use Rattle.claims.specs.Sessions.{RefusedOfferChangesNothing, AnotherSourceIs10, AnotherSourcesWordsAreNotHeard, OpeningForgets, EndingForgets, EndedTakesNothing, FirstPacketBeginsAlone, RepeatChangesNothing, lostBefore, LostFramesByFormula, bodyOctets, OctetCountByFormula}
 
 -- ---- how an offer ends: refused, and the session is as it was; or accepted, with so many lost frames
 data Ends (s : Session) (lost : ℕ) (o : Offered) : Type 0 where
@@ -181,15 +181,6 @@ octet-count-by-formula v h w e = go (holds v h) e
     go : (b : Bool) → cond b (octets (entriesOf (inTime v h))) (refused NotApplicable) ≡ octets w → length w ≡ length (inTime v h) + bodyOctets (inTime v h)
     go true q = let z : entriesOf (inTime v h) ≡ w = cc in sym (ap length z) ∙ entries-length (inTime v h)
     go false q = apart (cc)
-
--- ---- P15
-pub p15 : P15
-unfolding inGroup atDistance
-p15 = record {
-  later = λ s a e f g. rw (e, g) (simp (f));
-  inside = λ s a e f g. rw (e, g) (simp (f));
-  earlier = λ s a e f g. rw (e, g) (simp (f));
-}
 
 -- ---- ending
 pub ending-forgets : EndingForgets

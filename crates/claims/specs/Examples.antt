@@ -1,4 +1,4 @@
--- Document 01, "Marked examples": P1 to P10, P13 and P14, under a single claim.
+-- Document 01, "Marked examples": P1 to P10 and P13 to P15, under a single claim.
 use Prim.Native.Nat.{ℕ, zero, suc}
 use mathlib.Core.Path.{_≡_}
 use mathlib.Core.List.{List, [], _∷_, _++_, map}
@@ -11,6 +11,10 @@ use Rattle.frame.specs.declared.Form.{Form}
 use Rattle.frame.specs.declared.Form.the-variants.{HeaderFree, Interleaved}
 use Rattle.frame.specs.declared.Located.{Located}
 use Rattle.frame.specs.declared.Located.the-variants.{At}
+use Rattle.frame.specs.declared.Refusal.the-variants.{LaterGroup, ContradictsGroup, EarlierGroup}
+use Rattle.session.specs.Session.{inGroup, refuse}
+use Rattle.session.specs.declared.Session.{Session}
+use Rattle.session.specs.declared.Arrival.{Arrival}
 use Rattle.holding.specs.Bases.{baseSequence, baseTimestamp}
 use Rattle.payload.specs.Payload.{Reading, packet, refused, readAs}
 use Rattle.payload.specs.Shown.{givenAs}
@@ -69,7 +73,14 @@ rows =
 
 -- each row's octets are read as the row says; (P13) sequence 0000, timestamp 0, N 1 has the bases FFFF and FFFFFF60; and (P14) any 22
 -- octets are a frame of type 4
+-- (P15) "held base FFFF, L 1: new base 0001 is 12, 0000 is 11, FFFE is 13", of any session that holds such a group
+pub record P15 : Type 0 where
+  pub later : (s : Session) (a : Arrival) → s .group .sequence ≡ 0xFFFF → s .group .l ≡ 1 → a .sequence ≡ 0x0001 → inGroup s a ≡ refuse s LaterGroup
+  pub inside : (s : Session) (a : Arrival) → s .group .sequence ≡ 0xFFFF → s .group .l ≡ 1 → a .sequence ≡ 0x0000 → inGroup s a ≡ refuse s ContradictsGroup
+  pub earlier : (s : Session) (a : Arrival) → s .group .sequence ≡ 0xFFFF → s .group .l ≡ 1 → a .sequence ≡ 0xFFFE → inGroup s a ≡ refuse s EarlierGroup
+
 pub record MarkedExamples : Type 0 where
   pub asSaid : map (λ (r : Row). said (r .form) (r .octets)) rows ≡ map (λ (r : Row). r .says) rows
   pub anyRate1 : (p : List ℕ) → length p ≡ 22 → readAs evrc HeaderFree p ≡ packet 0 0 0 (record { type = 4; body = p } ∷ [])
   pub bases : (baseSequence 0 1 ≡ 0xFFFF) × (baseTimestamp 0 1 ≡ 0xFFFFFF60)
+  pub distances : P15

@@ -13,16 +13,15 @@ use Rattle.frame.specs.Table.{Vocoder, Frame}
 use Rattle.frame.specs.Outputs.{octets}
 use Rattle.frame.specs.declared.Form.{Form}
 use Rattle.frame.specs.declared.Refusal.{Refusal}
-use Rattle.frame.specs.declared.Refusal.the-variants.{AnotherSource, ContradictsGroup, LaterGroup, EarlierGroup, NotApplicable}
+use Rattle.frame.specs.declared.Refusal.the-variants.{AnotherSource, NotApplicable}
 use Rattle.payload.specs.Payload.{packet, readAs}
 use Rattle.holding.specs.Bases.{minus, baseSequence, baseTimestamp}
 use Rattle.holding.specs.Group.{isNothing, heldAt, packetOf}
 use Rattle.holding.specs.LaidOut.{laid}
 use Rattle.pouring.specs.Pouring.{inTime, poured}
 use Rattle.holding.specs.declared.Holding.{Holding}
-use Rattle.session.specs.Session.{never, fresh, formRight, opening, isOpen, refuse, accept, begins, inGroup, arrival, offered}
+use Rattle.session.specs.Session.{never, fresh, formRight, opening, isOpen, refuse, accept, begins, arrival, offered}
 use Rattle.session.specs.declared.Session.{Session}
-use Rattle.session.specs.declared.Arrival.{Arrival}
 use Rattle.session.specs.declared.Taken.the-variants.{Accepted, Refused}
 
 -- "Every refused offer leaves the session as it was."
@@ -103,9 +102,3 @@ bodyOctets (f ∷ fs) = length (f .body) + bodyOctets fs
 unfoldable pub OctetCountByFormula : Type 0
 OctetCountByFormula =
     (v : Vocoder) (h : Holding) (w : List ℕ) → poured v h ≡ octets w → length w ≡ length (inTime v h) + bodyOctets (inTime v h)
-
--- P15: "held base FFFF, L 1: new base 0001 is 12, 0000 is 11, FFFE is 13"
-pub record P15 : Type 0 where
-  pub later : (s : Session) (a : Arrival) → s .group .sequence ≡ 65535 → s .group .l ≡ 1 → a .sequence ≡ 1 → inGroup s a ≡ refuse s LaterGroup
-  pub inside : (s : Session) (a : Arrival) → s .group .sequence ≡ 65535 → s .group .l ≡ 1 → a .sequence ≡ 0 → inGroup s a ≡ refuse s ContradictsGroup
-  pub earlier : (s : Session) (a : Arrival) → s .group .sequence ≡ 65535 → s .group .l ≡ 1 → a .sequence ≡ 65534 → inGroup s a ≡ refuse s EarlierGroup

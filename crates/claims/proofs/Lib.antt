@@ -5,4 +5,5 @@ pub mod PacketTrips
 pub mod PacketBack
 pub mod JoiningClaims
 pub mod SessionClaims
+pub mod Demand3Claims
 pub mod Outcomes

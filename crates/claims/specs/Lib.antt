@@ -4,4 +4,5 @@ pub mod Recordings
 pub mod Packets
 pub mod Joinings
 pub mod Sessions
+pub mod Demand3
 pub mod Determined

@@ -93,8 +93,8 @@ pub fn empty() -> Holding
 fn is_blank(h: Holding) -> bool
     ensures { λ r. ⌜ r ≡ blank h ⌝ }
 {
-    let held = h.held;
-    let some = octets::any(&held);
+    let flags = h.held;
+    let some = octets::any(&flags);
     if some {
         return false;
     }

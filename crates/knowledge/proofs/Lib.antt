@@ -2,3 +2,4 @@ pub mod Cells
 pub mod PacketLaws
 pub mod JoinLaws
 pub mod KnowledgeLaws
+pub mod PutLaws

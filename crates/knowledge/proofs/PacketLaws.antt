@@ -162,7 +162,7 @@ listed-snoc : (v : Vocoder) (fs : List Frame) (f : Frame) → AllListed v fs →
 listed-snoc v [] f a x = (x, tt)
 listed-snoc v (g ∷ fs) f a x = (a .0, listed-snoc v fs f (a .1) x)
 
-listed-upTo : (v : Vocoder) (f : ℕ → Frame) (n : ℕ) → ((k : ℕ) → k < n → Listed v (f k)) → AllListed v (upTo f n)
+pub listed-upTo : (v : Vocoder) (f : ℕ → Frame) (n : ℕ) → ((k : ℕ) → k < n → Listed v (f k)) → AllListed v (upTo f n)
 unfolding upTo
 listed-upTo v f zero h = tt
 listed-upTo v f (suc n) h = listed-snoc v (upTo f n) (f n) (listed-upTo v f n (λ k q. h k (omega arith))) (h n (omega arith))

@@ -1,0 +1,416 @@
+-- Demand 3. Assumes nothing.
+use Prim.Native.Nat.{ℕ, _+_, _-_, _*_, _%_, _≤_, _<_}
+use mathlib.Core.Path.{_≡_, refl, sym, ap, ap₂, subst, _∙_}
+use mathlib.Core.List.{List, [], _∷_}
+use mathlib.Core.Bool.{Bool, true, false, not, cond, _&&_, _||_}
+use native.Mathlib.Omega.{arith}
+use lib.Dec.{eqb, leb}
+use lib.ListN.{length}
+use borrow.Author.Tests.{eq-eqb, ne-eqb, leb-true, eqb-true, eqb-false}
+use Rattle.octets.proofs.Logic.{apart, both-true}
+use Rattle.frame.specs.Table.{Vocoder, Frame, AllListed}
+use Rattle.frame.specs.Places.{frameAt}
+use Rattle.frame.specs.declared.Form.{Form}
+use Rattle.frame.specs.declared.Refusal.the-variants.{PacketDiffers}
+use Rattle.frame.proofs.PlaceLaws.{listed-at}
+use Rattle.payload.specs.Payload.{packet, readAs}
+use Rattle.packet.specs.Packet.{placeOf, packetFrames}
+use Rattle.packet.proofs.Numbering.{place-in}
+use Rattle.packet.proofs.Packing.{length-packet, packet-at}
+use Rattle.holding.specs.Bases.{minus, baseSequence, baseTimestamp}
+use Rattle.holding.specs.Group.{isNothing, blank, begun, heldAt, packetOf, withPacket, samePackets, holds}
+use Rattle.holding.specs.LaidOut.{laid}
+use Rattle.holding.specs.declared.Holding.{Holding}
+use Rattle.pouring.specs.Pouring.{inTime}
+use Rattle.knowledge.specs.Knowledge.{Box, Known, heard, lost, framesHeard, knownOf, frameKnown}
+use Rattle.holding.proofs.GroupLaws.{holds-sound}
+use Rattle.knowledge.proofs.JoinLaws.{box-sound}
+use Rattle.knowledge.proofs.KnowledgeLaws.{known-held, heard-laid}
+use Rattle.knowledge.proofs.PacketLaws.{packets-refl, listed-upTo}
+use Rattle.knowledge.proofs.PutLaws.{Keeps, with-head, put-box, put-knows, put-others, begun-keeps, begun-lost}
+use Rattle.session.specs.Session.{formRight, lastRight, groupRight, isOpen, accept, refuse, withGroup, sameBase, atDistance, inGroup, begins, noGroup, placed, arrival, judged, offered}
+use Rattle.session.proofs.SessionLaws.{next-group, first-group}
+use Rattle.joining.proofs.Heads.{SameHead}
+use Rattle.session.specs.declared.Session.{Session}
+use Rattle.session.specs.declared.Offered.{Offered}
+use Rattle.session.specs.declared.Arrival.{Arrival}
+use Rattle.session.specs.declared.Taken.the-variants.{Accepted}
+use Rattle.claims.specs.Joinings.{HasRoom, EveryPlaceInTime}
+use Rattle.claims.specs.Sessions.{lostBefore}
+use Rattle.claims.specs.Demand3.{Sent, offerOne, offerAll, AllAccepted, Ready, Within, among, knowledge, HoldsExactly, PouredPlaces, Demand3}
+use Rattle.claims.proofs.JoiningClaims.{every-place-in-time}
+
+-- ---- the base numbers of a packet that was numbered and stamped
+base-back : (s n : ℕ) → s < 65536 → n < 8 → baseSequence ((s + n) % 65536) n ≡ s
+base-back s n h k = omega arith
+
+time-back : (t n : ℕ) → t < 4294967296 → n < 8 → baseTimestamp ((t + 160 * n) % 4294967296) n ≡ t
+time-back t n h k = omega arith
+
+no-distance : (a : ℕ) → a < 65536 → minus 16 a a ≡ 0
+no-distance a h = omega arith
+
+-- ---- the frames of packet N
+packet-listed : (v : Vocoder) (l n b : ℕ) (fs : List Frame) → AllListed v fs → n ≤ l → length fs ≡ (l + 1) * b → AllListed v (packetFrames l n b fs)
+unfolding packetFrames
+packet-listed v l n b fs a h m =
+    listed-upTo v (λ k. frameAt fs (placeOf l n k)) b (λ k q. listed-at v fs (placeOf l n k) a (omega (arith, place-in l n b k h q)))
+
+-- a packet that is not known is not held
+known-lost : (v : Vocoder) (h : Holding) (n : ℕ) → knownOf v h n ≡ lost → heldAt h n ≡ false
+unfolding knownOf
+known-lost v h n e = go (heldAt h n) refl e
+  where
+    go : (t : Bool) → heldAt h n ≡ t → cond t (heard (framesHeard v h n)) lost ≡ lost → heldAt h n ≡ false
+    go true q x = apart (cc)
+    go false q x = q
+
+-- ---- a packet is offered
+module _ (v : Vocoder) (s : Session) (source sequence timestamp l n d : ℕ) (fs : List Frame) (p : List ℕ) where
+  offer-read : isOpen v s ≡ true → s .source ≡ source → readAs v (s .form) p ≡ packet l n d fs → offered v s source sequence timestamp p ≡ placed s (arrival sequence timestamp l n fs)
+  unfolding offered judged
+  offer-read o e r = simp (o, eq-eqb source (s .source) (sym e), r)
+
+-- ---- a holding that holds a packet is not that of nothing
+and-false : (a b c d e f : Bool) → e ≡ false → a && (b && (c && (d && (e && f)))) ≡ false
+and-false false b c d e f h = refl
+and-false true false c d e f h = refl
+and-false true true false d e f h = refl
+and-false true true true false e f h = refl
+and-false true true true true e f h = rw h
+
+some-held : (v : Vocoder) (h : Holding) → Box v h → isNothing h ≡ false
+unfolding isNothing
+some-held v h x =
+    let b : h .b ≡ 0 → ⊥ = λ e. no-zero (box-sound v h x .some) e in
+    and-false (eqb (h .source) 0) (eqb (h .sequence) 0) (eqb (h .timestamp) 0) (eqb (h .l) 0) (eqb (h .b) 0) (blank h) (ne-eqb (h .b) 0 b)
+  where
+    no-zero : {x : ℕ} → 1 ≤ x → x ≡ 0 → ⊥
+    no-zero i j = absurd (omega arith)
+
+-- ---- a session with another group held stays open
+open-with : (v : Vocoder) (s : Session) (h : Holding) → isOpen v s ≡ true → Box v h → h .source ≡ s .source → isOpen v (withGroup s h) ≡ true
+unfolding isOpen withGroup groupRight lastRight
+open-with v s h o x e =
+    let p = both-true (s .«open») (formRight (s .form) && (lastRight s && groupRight v s)) o in
+    let q = both-true (formRight (s .form)) (lastRight s && groupRight v s) (p .1) in
+    let r = both-true (lastRight s) (groupRight v s) (q .1) in
+    simp (p .0, q .0, r .0, some-held v h x, x .some, eq-eqb (h .source) (s .source) e)
+
+-- what one more offer does
+record OneMore {v : Vocoder} {form : Form} (s : Session) (g : Sent v form) (n : ℕ) (ds : List ℕ) : Type 0 where
+  told : offerOne s g n .answer ≡ Accepted 0
+  after : HoldsExactly (offerOne s g n .session) g (n ∷ ds)
+
+-- ---- packet n is offered to a session that holds the group
+module _ (v : Vocoder) (m : HasRoom v) (form : Form) (g : Sent v form) (n : ℕ) (le : n ≤ g .l) where
+  abbrev ours : List Frame
+  ours = packetFrames (g .l) n (g .b) (g .frames)
+
+  abbrev numbered : ℕ
+  numbered = (g .sequence + n) % 65536
+
+  abbrev stamped : ℕ
+  stamped = (g .timestamp + 160 * n) % 4294967296
+
+  small : n < 8
+  small = omega (arith, g .low)
+
+  ours-many : length ours ≡ g .b
+  ours-many = length-packet (g .l) n (g .b) (g .frames)
+
+  ours-listed : AllListed v ours
+  ours-listed = packet-listed v (g .l) n (g .b) (g .frames) (g .listed) le (g .many)
+
+  base-is : baseSequence numbered n ≡ g .sequence
+  base-is = base-back (g .sequence) n (g .sequence-fits) small
+
+  time-is : baseTimestamp stamped n ≡ g .timestamp
+  time-is = time-back (g .timestamp) n (g .timestamp-fits) small
+
+  -- what becomes of it: the same again, or put in
+  module _ (s : Session) (ds : List ℕ) (x : HoldsExactly s g ds) where
+    in-place : offerOne s g n ≡ sameBase s (arrival numbered stamped (g .l) n ours)
+    unfolding placed inGroup atDistance arrival
+    in-place =
+        let r : readAs v (s .form) (g .payload n) ≡ packet (g .l) n (g .d n) ours = rw (x .in-form) (g .read n le) in
+        let z : minus 16 (baseSequence numbered n) (s .group .sequence) ≡ 0 = rw (base-is, x .base) (no-distance (g .sequence) (g .sequence-fits)) in
+        offer-read v s (g .source) numbered stamped (g .l) n (g .d n) ours (g .payload n) (x .still-open) (x .for-source) r
+        ∙ simp (some-held v (s .group) (x .box), z)
+
+    by-held : sameBase s (arrival numbered stamped (g .l) n ours) ≡ cond (heldAt (s .group) n) (cond (samePackets (packetOf (s .group) n) (laid ours)) (accept s 0) (refuse s PacketDiffers)) (accept (withGroup s (withPacket (s .group) n (laid ours))) 0)
+    unfolding sameBase arrival
+    by-held =
+        simp (eq-eqb (g .l) (s .group .l) (sym (x .same-length)), eq-eqb (length ours) (s .group .b) (ours-many ∙ sym (x .same-bundle)), eq-eqb (baseTimestamp stamped n) (s .group .timestamp) (time-is ∙ sym (x .time)))
+
+    -- held already
+    again : among n ds ≡ true → offerOne s g n ≡ accept s 0
+    unfolding knownOf
+    again e =
+        let k : knownOf v (s .group) n ≡ heard ours = x .knows n small ∙ rw e in
+        let t : heldAt (s .group) n ≡ true = known-held v (s .group) n ours k in
+        let f : framesHeard v (s .group) n ≡ ours = heard-are (rw t at k) in
+        let q : samePackets (packetOf (s .group) n) (laid ours) ≡ true =
+        rw (heard-laid v (m .short) (m .erasing) (s .group) (x .box) n small t ∙ ap laid f) (packets-refl (laid ours)) in
+        in-place ∙ by-held ∙ rw (t, q)
+      where
+        heard-are : {fs gs : List Frame} → heard fs ≡ heard gs → fs ≡ gs
+        heard-are i = cc
+
+    -- not held yet
+    added : among n ds ≡ false → offerOne s g n ≡ accept (withGroup s (withPacket (s .group) n (laid ours))) 0
+    added e =
+        let k : knownOf v (s .group) n ≡ lost = x .knows n small ∙ rw e in
+        in-place ∙ by-held ∙ rw (known-lost v (s .group) n k)
+
+    -- ---- the session after it
+    keeps : Keeps v (s .group)
+    keeps = record { shaped = x .box .shaped; rule = holds-sound v (s .group) (x .box .some) .0 }
+
+    in-group : n ≤ s .group .l
+    in-group = omega (arith, x .same-length)
+
+    many-in : length ours ≡ s .group .b
+    many-in = ours-many ∙ sym (x .same-bundle)
+
+    abbrev more : Holding
+    more = withPacket (s .group) n (laid ours)
+
+    after-put : HoldsExactly (withGroup s more) g (n ∷ ds)
+    unfolding withGroup
+    after-put =
+        let hd = with-head (s .group) n (laid ours) in
+        let b = put-box v (m .short) (m .erasing) (s .group) keeps n in-group ours many-in ours-listed in
+        record {
+          still-open = open-with v s more (x .still-open) b (hd .source ∙ x .of-source ∙ sym (x .for-source));
+          for-source = x .for-source;
+          in-form = x .in-form;
+          box = b;
+          of-source = hd .source ∙ x .of-source;
+          base = hd .sequence ∙ x .base;
+          time = hd .timestamp ∙ x .time;
+          same-length = hd .l ∙ x .same-length;
+          same-bundle = hd .b ∙ x .same-bundle;
+          knows = λ i k. go i k (eqb i n) refl;
+        }
+      where
+        go : (i : ℕ) → i < 8 → (t : Bool) → eqb i n ≡ t → knownOf v more i ≡ cond (t || among i ds) (heard (packetFrames (g .l) i (g .b) (g .frames))) lost
+        go i k true e =
+            let q : i ≡ n = eqb-true i n e in
+            subst (λ (j : ℕ). knownOf v more j ≡ heard (packetFrames (g .l) j (g .b) (g .frames))) (sym q)
+            (put-knows v (m .short) (m .erasing) (s .group) keeps n in-group ours many-in ours-listed)
+        go i k false e = put-others v (m .short) (m .erasing) (s .group) keeps n in-group ours many-in ours-listed i (eqb-false i n e) ∙ x .knows i k
+
+    after-again : among n ds ≡ true → HoldsExactly s g (n ∷ ds)
+    after-again e =
+        record {
+          still-open = x .still-open;
+          for-source = x .for-source;
+          in-form = x .in-form;
+          box = x .box;
+          of-source = x .of-source;
+          base = x .base;
+          time = x .time;
+          same-length = x .same-length;
+          same-bundle = x .same-bundle;
+          knows = λ i k. x .knows i k ∙ go i (eqb i n) refl;
+        }
+      where
+        go : (i : ℕ) (t : Bool) → eqb i n ≡ t → knowledge g ds i ≡ cond (t || among i ds) (heard (packetFrames (g .l) i (g .b) (g .frames))) lost
+        go i true q = let z : among i ds ≡ true = ap (λ (j : ℕ). among j ds) (eqb-true i n q) ∙ e in rw z
+        go i false q = refl
+
+    -- one more offer
+    step : OneMore s g n ds
+    unfolding accept
+    step = go (among n ds) refl
+      where
+        go : (t : Bool) → among n ds ≡ t → OneMore s g n ds
+        go true e =
+            let o = again e in
+            record { told = ap (λ (y : Offered). y .answer) o; after = subst (λ (y : Session). HoldsExactly y g (n ∷ ds)) (sym (ap (λ (y : Offered). y .session) o)) (after-again e) }
+        go false e =
+            let o = added e in
+            record { told = ap (λ (y : Offered). y .answer) o; after = subst (λ (y : Session). HoldsExactly y g (n ∷ ds)) (sym (ap (λ (y : Offered). y .session) o)) after-put }
+
+-- ---- one after the other
+abbrev spread : List ℕ → List ℕ → List ℕ
+spread ds [] = ds
+spread ds (n ∷ ns) = spread (n ∷ ds) ns
+
+record More {v : Vocoder} {form : Form} (s : Session) (g : Sent v form) (ds ns : List ℕ) : Type 0 where
+  told : AllAccepted s g 0 ns
+  after : HoldsExactly (offerAll s g ns) g (spread ds ns)
+
+offers : (v : Vocoder) → HasRoom v → (form : Form) (g : Sent v form) (s : Session) (ds ns : List ℕ) → HoldsExactly s g ds → Within (g .l) ns → More s g ds ns
+unfolding AllAccepted offerAll
+offers v m form g s ds [] x w = record { told = tt; after = x }
+offers v m form g s ds (n ∷ ns) x w =
+    let o = step v m form g n (w .0) s ds x in
+    let r = offers v m form g (offerOne s g n .session) (n ∷ ds) ns (o .after) (w .1) in
+    record { told = (o .told, r .told); after = r .after }
+
+-- ---- the first packet begins the group
+record First {v : Vocoder} {form : Form} (s : Session) (g : Sent v form) (n : ℕ) : Type 0 where
+  told : offerOne s g n .answer ≡ Accepted (lostBefore s (g .sequence))
+  after : HoldsExactly (offerOne s g n .session) g (n ∷ [])
+
+module _ (v : Vocoder) (m : HasRoom v) (form : Form) (g : Sent v form) (n : ℕ) (le : n ≤ g .l) (s : Session) (y : Ready s g) where
+  abbrev mine : List Frame
+  mine = packetFrames (g .l) n (g .b) (g .frames)
+
+  abbrev none : Holding
+  none = begun (g .source) (g .sequence) (g .timestamp) (g .l) (g .b)
+
+  abbrev first : Holding
+  first = withPacket none n (laid mine)
+
+  abbrev came : Arrival
+  came = arrival ((g .sequence + n) % 65536) ((g .timestamp + 160 * n) % 4294967296) (g .l) n mine
+
+  came-base : came .sequence ≡ g .sequence
+  unfolding arrival
+  came-base = base-is v m form g n le
+
+  first-read : offerOne s g n ≡ noGroup s came
+  unfolding placed
+  first-read =
+      let r : readAs v (s .form) (g .payload n) ≡ packet (g .l) n (g .d n) mine = rw (y .in-form) (g .read n le) in
+      offer-read v s (g .source) _ _ (g .l) n (g .d n) mine (g .payload n) (y .opened) (y .for-source) r ∙ simp (y .vacant)
+
+  begins-so : (k : ℕ) → begins s came k ≡ accept (withGroup s first) k
+  unfolding begins arrival
+  begins-so k = rw (y .for-source, base-is v m form g n le, time-is v m form g n le, ours-many v m form g n le)
+
+  abbrev gap : ℕ
+  gap = minus 16 (g .sequence) (s .«last_sequence» + (s .«last_l» + 1))
+
+  after-one : s .poured ≡ true → noGroup s came ≡ begins s came (gap * s .«last_b»)
+  after-one p =
+      let h : gap ≤ 100 = leb-true gap 100 (would (s .poured) (leb gap 100) p (y .would-begin)) in
+      sym (next-group s came p gap (ap (λ (q : ℕ). minus 16 q (s .«last_sequence» + (s .«last_l» + 1))) (sym came-base)) (omega arith) h (begins s came (gap * s .«last_b»)) refl)
+    where
+      would : (t u : Bool) → t ≡ true → cond t u true ≡ true → u ≡ true
+      would true u e f = f
+      would false u e f = apart (cc)
+
+  begun-first : noGroup s came ≡ begins s came (lostBefore s (g .sequence))
+  begun-first = go (s .poured) refl
+    where
+      count : (t : Bool) → s .poured ≡ t → lostBefore s (g .sequence) ≡ cond t (gap * s .«last_b») 0
+      count t p = simp (y .vacant, p)
+
+      go : (t : Bool) → s .poured ≡ t → noGroup s came ≡ begins s came (lostBefore s (g .sequence))
+      go true p = after-one p ∙ ap (begins s came) (sym (count true p))
+      go false p = sym (first-group s came p (begins s came 0) refl) ∙ ap (begins s came) (sym (count false p))
+
+  keeps-none : Keeps v none
+  keeps-none = begun-keeps (g .source) (g .sequence) (g .timestamp) (g .l) (g .b) v (g .low) (g .some) (g .few)
+
+  none-head : SameHead first none
+  none-head = with-head none n (laid mine)
+
+  le-none : n ≤ none .l
+  unfolding begun
+  le-none = le
+
+  many-none : length mine ≡ none .b
+  unfolding begun
+  many-none = ours-many v m form g n le
+
+  first-box : Box v first
+  first-box = put-box v (m .short) (m .erasing) none keeps-none n le-none mine many-none (ours-listed v m form g n le)
+
+  none-lost : (i : ℕ) → i < 8 → knownOf v none i ≡ lost
+  unfolding knownOf
+  none-lost i k = rw (begun-lost (g .source) (g .sequence) (g .timestamp) (g .l) (g .b) i k)
+
+  first-exactly : HoldsExactly (withGroup s first) g (n ∷ [])
+  unfolding withGroup withPacket begun
+  first-exactly =
+      record {
+        still-open = open-with v s first (y .opened) first-box (sym (y .for-source));
+        for-source = y .for-source;
+        in-form = y .in-form;
+        box = first-box;
+        of-source = refl;
+        base = refl;
+        time = refl;
+        same-length = refl;
+        same-bundle = refl;
+        knows = λ i k. go i k (eqb i n) refl;
+      }
+    where
+      go : (i : ℕ) → i < 8 → (t : Bool) → eqb i n ≡ t → knownOf v first i ≡ cond (t || false) (heard (packetFrames (g .l) i (g .b) (g .frames))) lost
+      go i k true e =
+          let q : i ≡ n = eqb-true i n e in
+          subst (λ (j : ℕ). knownOf v first j ≡ heard (packetFrames (g .l) j (g .b) (g .frames))) (sym q)
+          (put-knows v (m .short) (m .erasing) none keeps-none n le-none mine many-none (ours-listed v m form g n le))
+      go i k false e = put-others v (m .short) (m .erasing) none keeps-none n le-none mine many-none (ours-listed v m form g n le) i (eqb-false i n e) ∙ none-lost i k
+
+  begins-group : First s g n
+  unfolding accept
+  begins-group =
+      let o : offerOne s g n ≡ accept (withGroup s first) (lostBefore s (g .sequence)) = first-read ∙ begun-first ∙ begins-so (lostBefore s (g .sequence)) in
+      record { told = ap (λ (z : Offered). z .answer) o; after = subst (λ (z : Session). HoldsExactly z g (n ∷ [])) (sym (ap (λ (z : Offered). z .session) o)) first-exactly }
+
+-- ---- the demand
+or-turn : (a b : Bool) → a || (b || false) ≡ b || a
+or-turn true true = refl
+or-turn true false = refl
+or-turn false true = refl
+or-turn false false = refl
+
+or-assoc : (a b c : Bool) → a || (b || c) ≡ (b || a) || c
+or-assoc true true c = refl
+or-assoc true false c = refl
+or-assoc false true c = refl
+or-assoc false false c = refl
+
+spread-among : (i : ℕ) (ds ns : List ℕ) → among i (spread ds ns) ≡ among i ns || among i ds
+spread-among i ds [] = refl
+spread-among i ds (n ∷ ns) = spread-among i (n ∷ ds) ns ∙ or-assoc (among i ns) (eqb i n) (among i ds)
+
+exactly-as : {v : Vocoder} {form : Form} (s : Session) (g : Sent v form) (ds es : List ℕ) → ((i : ℕ) → among i ds ≡ among i es) → HoldsExactly s g ds → HoldsExactly s g es
+exactly-as s g ds es h x =
+    record {
+      still-open = x .still-open;
+      for-source = x .for-source;
+      in-form = x .in-form;
+      box = x .box;
+      of-source = x .of-source;
+      base = x .base;
+      time = x .time;
+      same-length = x .same-length;
+      same-bundle = x .same-bundle;
+      knows = λ i k. x .knows i k ∙ ap (λ (t : Bool). cond t (heard (packetFrames (g .l) i (g .b) (g .frames))) lost) (h i);
+    }
+
+places-of : (v : Vocoder) → HasRoom v → (form : Form) (s : Session) (g : Sent v form) (ns : List ℕ) → HoldsExactly s g ns → PouredPlaces s g ns
+unfolding EveryPlaceInTime
+places-of v m form s g ns x =
+    let p = every-place-in-time v m (s .group) (x .box) in
+    record {
+      count = p .count ∙ ap₂ (λ (l b : ℕ). (l + 1) * b) (x .same-length) (x .same-bundle);
+      original = λ n k i j e. at-place n k i j ∙ ap (λ (w : Known). frameKnown w k) (offered-known n i e) ∙ packet-at (g .l) n (g .b) (g .frames) k j;
+      erased = λ n k i j e. at-place n k i j ∙ ap (λ (w : Known). frameKnown w k) (missed-lost n i e);
+    }
+  where
+    offered-known : (n : ℕ) → n ≤ g .l → among n ns ≡ true → knownOf v (s .group) n ≡ heard (packetFrames (g .l) n (g .b) (g .frames))
+    offered-known n i e = x .knows n (omega (arith, g .low)) ∙ ap (λ (t : Bool). cond t (heard (packetFrames (g .l) n (g .b) (g .frames))) lost) e
+
+    missed-lost : (n : ℕ) → n ≤ g .l → among n ns ≡ false → knownOf v (s .group) n ≡ lost
+    missed-lost n i e = x .knows n (omega (arith, g .low)) ∙ ap (λ (t : Bool). cond t (heard (packetFrames (g .l) n (g .b) (g .frames))) lost) e
+
+    at-place : (n k : ℕ) → n ≤ g .l → k < g .b → frameAt (inTime v (s .group)) (placeOf (g .l) n k) ≡ frameKnown (knownOf v (s .group) n) k
+    at-place n k i j =
+        ap (λ (l : ℕ). frameAt (inTime v (s .group)) (placeOf l n k)) (sym (x .same-length))
+        ∙ every-place-in-time v m (s .group) (x .box) .places n k (omega (arith, x .same-length)) (omega (arith, x .same-bundle))
+
+pub demand-3 : Demand3
+unfolding Demand3 AllAccepted offerAll
+demand-3 v m form g s y n ns w =
+    let f = begins-group v m form g n (w .0) s y in
+    let r = offers v m form g (offerOne s g n .session) (n ∷ []) ns (f .after) (w .1) in
+    let x = exactly-as (offerAll (offerOne s g n .session) g ns) g (spread (n ∷ []) ns) (n ∷ ns) (λ i. spread-among i (n ∷ []) ns ∙ or-turn (among i ns) (eqb i n)) (r .after) in
+    record { accepted = (f .told, r .told); exactly = x; places = places-of v m form (offerAll (offerOne s g n .session) g ns) g (n ∷ ns) x }

@@ -1,0 +1,109 @@
+-- Demand 3: a group that our writer made, any part of it offered in any order, repeats allowed, to a session that is ready for it.
+-- Over any frame table that a holding has room for, and any packet format for which reading after writing holds: that law is the field
+-- `read` of `Sent`, and all that is asked of a format.
+use Prim.Native.Nat.{ℕ, _+_, _*_, _%_, _≤_, _<_}
+use mathlib.Core.Path.{_≡_}
+use mathlib.Core.List.{List, [], _∷_}
+use mathlib.Core.Bool.{Bool, true, false, cond, _||_}
+use lib.Dec.{eqb, leb}
+use lib.ListN.{length}
+use Rattle.frame.specs.Table.{Vocoder, Frame, AllListed, erasure}
+use Rattle.frame.specs.Places.{frameAt}
+use Rattle.frame.specs.declared.Form.{Form}
+use Rattle.payload.specs.Payload.{packet, readAs}
+use Rattle.packet.specs.Packet.{placeOf, packetFrames}
+use Rattle.holding.specs.Bases.{minus}
+use Rattle.holding.specs.Group.{isNothing}
+use Rattle.pouring.specs.Pouring.{inTime}
+use Rattle.knowledge.specs.Knowledge.{Box, Known, heard, lost, knownOf}
+use Rattle.session.specs.Session.{isOpen, offered}
+use Rattle.session.specs.declared.Session.{Session}
+use Rattle.session.specs.declared.Offered.{Offered}
+use Rattle.session.specs.declared.Taken.the-variants.{Accepted}
+use Rattle.claims.specs.Joinings.{HasRoom}
+use Rattle.claims.specs.Sessions.{lostBefore}
+
+-- a group as it was written: its numbers, its frames in time order, and the payload of each packet, which is read as that packet's frames
+pub record Sent (v : Vocoder) (form : Form) : Type 0 where
+  pub source : ℕ
+  pub sequence : ℕ
+  pub timestamp : ℕ
+  pub l : ℕ
+  pub b : ℕ
+  pub frames : List Frame
+  pub payload : ℕ → List ℕ
+  pub d : ℕ → ℕ
+  pub sequence-fits : sequence < 65536
+  pub timestamp-fits : timestamp < 4294967296
+  pub low : l ≤ 7
+  pub some : 1 ≤ b
+  pub few : b ≤ 10
+  pub many : length frames ≡ (l + 1) * b
+  pub listed : AllListed v frames
+  pub read : (n : ℕ) → n ≤ l → readAs v form (payload n) ≡ packet l n (d n) (packetFrames l n b frames)
+
+-- "numbered and stamped": packet N has the base numbers and N, wrap-around included
+abbrev pub offerOne : {v : Vocoder} {form : Form} → Session → Sent v form → ℕ → Offered
+offerOne {v} s g n =
+    offered v s (g .source) ((g .sequence + n) % 65536) ((g .timestamp + 160 * n) % 4294967296) (g .payload n)
+
+-- its packets of these numbers, one after the other
+unfoldable pub offerAll : {v : Vocoder} {form : Form} → Session → Sent v form → List ℕ → Session
+offerAll s g [] = s
+offerAll s g (n ∷ ns) = offerAll (offerOne s g n .session) g ns
+
+-- every offer is accepted; the first reports these lost frames, the others none
+unfoldable pub AllAccepted : {v : Vocoder} {form : Form} → Session → Sent v form → ℕ → List ℕ → Type 0
+AllAccepted s g before [] = Unit {0}
+AllAccepted s g before (n ∷ ns) = (offerOne s g n .answer ≡ Accepted before) × AllAccepted (offerOne s g n .session) g 0 ns
+
+-- "A session is ready for a group if it is open for its source in the form the group was written in, holds none, and these rules would begin it."
+pub record Ready {v : Vocoder} {form : Form} (s : Session) (g : Sent v form) : Type 0 where
+  pub opened : isOpen v s ≡ true
+  pub for-source : s .source ≡ g .source
+  pub in-form : s .form ≡ form
+  pub vacant : isNothing (s .group) ≡ true
+  pub would-begin : cond (s .poured) (leb (minus 16 (g .sequence) (s .«last_sequence» + (s .«last_l» + 1))) 100) true ≡ true
+
+-- numbers of packets of the group
+abbrev pub Within : ℕ → List ℕ → Type 0
+Within l [] = Unit {0}
+Within l (n ∷ ns) = (n ≤ l) × Within l ns
+
+abbrev pub among : ℕ → List ℕ → Bool
+among n [] = false
+among n (m ∷ ms) = eqb n m || among n ms
+
+-- what is known of packet n where these were offered
+abbrev pub knowledge : {v : Vocoder} {form : Form} → Sent v form → List ℕ → ℕ → Known
+knowledge g ns n = cond (among n ns) (heard (packetFrames (g .l) n (g .b) (g .frames))) lost
+
+-- the session's holding is the one that names exactly the packets offered
+pub record HoldsExactly {v : Vocoder} {form : Form} (s : Session) (g : Sent v form) (ns : List ℕ) : Type 0 where
+  pub still-open : isOpen v s ≡ true
+  pub for-source : s .source ≡ g .source
+  pub in-form : s .form ≡ form
+  pub box : Box v (s .group)
+  pub of-source : s .group .source ≡ g .source
+  pub base : s .group .sequence ≡ g .sequence
+  pub time : s .group .timestamp ≡ g .timestamp
+  pub same-length : s .group .l ≡ g .l
+  pub same-bundle : s .group .b ≡ g .b
+  pub knows : (n : ℕ) → n < 8 → knownOf v (s .group) n ≡ knowledge g ns n
+
+-- each time place has the original frame if its packet was offered, and an erasure if not
+pub record PouredPlaces {v : Vocoder} {form : Form} (s : Session) (g : Sent v form) (ns : List ℕ) : Type 0 where
+  pub count : length (inTime v (s .group)) ≡ (g .l + 1) * g .b
+  pub original : (n k : ℕ) → n ≤ g .l → k < g .b → among n ns ≡ true → frameAt (inTime v (s .group)) (placeOf (g .l) n k) ≡ frameAt (g .frames) (placeOf (g .l) n k)
+  pub erased : (n k : ℕ) → n ≤ g .l → k < g .b → among n ns ≡ false → frameAt (inTime v (s .group)) (placeOf (g .l) n k) ≡ record { type = erasure; body = [] }
+
+-- the third demand
+pub record Delivered {v : Vocoder} {form : Form} (s : Session) (g : Sent v form) (n : ℕ) (ns : List ℕ) : Type 0 where
+  pub accepted : AllAccepted s g (lostBefore s (g .sequence)) (n ∷ ns)
+  pub exactly : HoldsExactly (offerAll s g (n ∷ ns)) g (n ∷ ns)
+  pub places : PouredPlaces (offerAll s g (n ∷ ns)) g (n ∷ ns)
+
+unfoldable pub Demand3 : Type 0
+Demand3 =
+    (v : Vocoder) → HasRoom v → (form : Form) (g : Sent v form) (s : Session) → Ready s g → (n : ℕ) (ns : List ℕ) → Within (g .l) (n ∷ ns) →
+    Delivered s g n ns

@@ -57,7 +57,7 @@ packet-listed v l n b fs a h m =
     listed-upTo v (λ k. frameAt fs (placeOf l n k)) b (λ k q. listed-at v fs (placeOf l n k) a (omega (arith, place-in l n b k h q)))
 
 -- a packet that is not known is not held
-known-lost : (v : Vocoder) (h : Holding) (n : ℕ) → knownOf v h n ≡ lost → heldAt h n ≡ false
+pub known-lost : (v : Vocoder) (h : Holding) (n : ℕ) → knownOf v h n ≡ lost → heldAt h n ≡ false
 unfolding knownOf
 known-lost v h n e = go (heldAt h n) refl e
   where
@@ -386,7 +386,7 @@ exactly-as s g ds es h x =
       knows = λ i k. x .knows i k ∙ ap (λ (t : Bool). cond t (heard (packetFrames (g .l) i (g .b) (g .frames))) lost) (h i);
     }
 
-places-of : (v : Vocoder) → HasRoom v → (form : Form) (s : Session) (g : Sent v form) (ns : List ℕ) → HoldsExactly s g ns → PouredPlaces s g ns
+pub places-of : (v : Vocoder) → HasRoom v → (form : Form) (s : Session) (g : Sent v form) (ns : List ℕ) → HoldsExactly s g ns → PouredPlaces s g ns
 unfolding EveryPlaceInTime
 places-of v m form s g ns x =
     let p = every-place-in-time v m (s .group) (x .box) in

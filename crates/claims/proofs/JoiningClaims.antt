@@ -33,11 +33,11 @@ data Ends (v : Vocoder) (xs : List Holding) (j : Joined) : Type 0 where
   clash : Clash xs xs → j ≡ refusedJoin PacketDiffers → Ends v xs j
 
 -- a way has a box
-record Some (xs : List Holding) : Type 0 where
-  box : Holding
-  is-in : Among box xs
+pub record Some (xs : List Holding) : Type 0 where
+  pub box : Holding
+  pub is-in : Among box xs
 
-some-box : (w : Way) → Some (boxes w)
+pub some-box : (w : Way) → Some (boxes w)
 some-box (only h) = record { box = h; is-in = inl refl }
 some-box (joining s t) = let x = some-box s in record { box = x .box; is-in = in-left (x .box) (boxes s) (boxes t) (x .is-in) }
 
@@ -213,7 +213,7 @@ else-they-join v m w g h = go (ends v w g)
         absurd (h (c .x) (c .y) (c .x-in) (c .y-in) (clash-differ v m (c .x) (c .y) (g .each (c .x) (c .x-in)) (g .each (c .y) (c .y-in)) (g .same (c .x) (c .y) (c .x-in) (c .y-in)) (c .differ)))
 
 -- ---- a joining that was done is the sum of its boxes
-done-sum : (v : Vocoder) (w : Way) → OneGroup v (boxes w) → (all : Holding) → outcome v w ≡ done all → Sum v (boxes w) all
+pub done-sum : (v : Vocoder) (w : Way) → OneGroup v (boxes w) → (all : Holding) → outcome v w ≡ done all → Sum v (boxes w) all
 unfolding refusedJoin
 done-sum v w g all q = go (ends v w g)
   where

@@ -6,4 +6,7 @@ pub mod PacketBack
 pub mod JoiningClaims
 pub mod SessionClaims
 pub mod Demand3Claims
+pub mod SendingClaims
+pub mod BoxesClaims
+pub mod MissingClaims
 pub mod Outcomes

@@ -139,9 +139,11 @@ not-refused false r x w e = (refl, e)
 
 pub record MadeOf (v : Vocoder) (m : Limits) (l n b d : ℕ) (es w : List ℕ) : Type 0 where
   pub writable : Writable v m l n d (packetFrames l n b (groupIn v es))
+  pub count : length (groupIn v es) ≡ (l + 1) * b
+  pub whole : Fit v (groupIn v es)
   pub is : w ≡ packed l n d (packetFrames l n b (groupIn v es))
 
-made-of : (v : Vocoder) (m : Limits) (l n b d : ℕ) (es w : List ℕ) → packetMade v (Interleaved m) l n b d es ≡ octets w → MadeOf v m l n b d es w
+pub made-of : (v : Vocoder) (m : Limits) (l n b d : ℕ) (es w : List ℕ) → packetMade v (Interleaved m) l n b d es ≡ octets w → MadeOf v m l n b d es w
 unfolding packetMade packetWithin packetOfGroup framesIn
 made-of v m l n b d es w e =
     let a = passed (inRange m && leb d 1) (packetWithin v m l n b d es) _ w e in
@@ -170,6 +172,8 @@ made-of v m l n b d es w e =
             few = omega arith;
             fit = fit-packet v l n b fs (entries-fit v (allowed v rule.Sendable) fs es 0 x) q (omega arith);
           });
+          count = rw f c;
+          whole = rw f (entries-fit v (allowed v rule.Sendable) fs es 0 x);
           is = rw f (cc (z .1));
         }
 

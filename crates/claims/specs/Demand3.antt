@@ -1,26 +1,32 @@
 -- Demand 3: a group that our writer made, any part of it offered in any order, repeats allowed, to a session that is ready for it.
 -- Over any frame table that a holding has room for, and any packet format for which reading after writing holds: that law is the field
 -- `read` of `Sent`, and all that is asked of a format.
-use Prim.Native.Nat.{ℕ, _+_, _*_, _%_, _≤_, _<_}
+use Prim.Native.Nat.{ℕ, suc, _+_, _*_, _%_, _≤_, _<_}
 use mathlib.Core.Path.{_≡_}
 use mathlib.Core.List.{List, [], _∷_}
 use mathlib.Core.Bool.{Bool, true, false, cond, _||_}
-use lib.Dec.{eqb, leb}
+use lib.Dec.{T, eqb, leb}
 use lib.ListN.{length}
 use Rattle.frame.specs.Table.{Vocoder, Frame, AllListed, erasure}
 use Rattle.frame.specs.Places.{frameAt}
 use Rattle.frame.specs.declared.Form.{Form}
 use Rattle.payload.specs.Payload.{packet, readAs}
-use Rattle.packet.specs.Packet.{placeOf, packetFrames}
+use Rattle.packet.specs.Packet.{placeOf, packetFrames, groupIn}
+use Rattle.packet.specs.Writing.{packetMade, headerFreeMade}
+use Rattle.frame.specs.declared.Limits.{Limits}
+use Rattle.frame.specs.declared.Form.the-variants.{HeaderFree, Interleaved}
+use Rattle.frame.specs.Outputs.{octets}
+use Rattle.claims.specs.Packets.{tells}
 use Rattle.holding.specs.Bases.{minus}
 use Rattle.holding.specs.Group.{isNothing}
+use Rattle.holding.specs.declared.Holding.{Holding}
 use Rattle.pouring.specs.Pouring.{inTime}
-use Rattle.knowledge.specs.Knowledge.{Box, Known, heard, lost, knownOf}
+use Rattle.knowledge.specs.Knowledge.{Box, Known, heard, lost, knownOf, Among}
 use Rattle.session.specs.Session.{isOpen, offered}
 use Rattle.session.specs.declared.Session.{Session}
 use Rattle.session.specs.declared.Offered.{Offered}
 use Rattle.session.specs.declared.Taken.the-variants.{Accepted}
-use Rattle.claims.specs.Joinings.{HasRoom}
+use Rattle.claims.specs.Joinings.{HasRoom, Way, boxes, done, outcome}
 use Rattle.claims.specs.Sessions.{lostBefore}
 
 -- a group as it was written: its numbers, its frames in time order, and the payload of each packet, which is read as that packet's frames
@@ -107,3 +113,79 @@ unfoldable pub Demand3 : Type 0
 Demand3 =
     (v : Vocoder) → HasRoom v → (form : Form) (g : Sent v form) (s : Session) → Ready s g → (n : ℕ) (ns : List ℕ) → Within (g .l) (n ∷ ns) →
     Delivered s g n ns
+
+-- a group that was sent with these numbers, frames and payloads
+pub record SentSo (v : Vocoder) (form : Form) (source sequence timestamp l b : ℕ) (frames : List Frame) (payload : ℕ → List ℕ) : Type 0 where
+  pub group : Sent v form
+  pub its-source : group .source ≡ source
+  pub its-sequence : group .sequence ≡ sequence
+  pub its-timestamp : group .timestamp ≡ timestamp
+  pub its-l : group .l ≡ l
+  pub its-b : group .b ≡ b
+  pub its-frames : group .frames ≡ frames
+  pub its-payload : (n : ℕ) → group .payload n ≡ payload n
+
+-- our writer sends such a group: "any L, B, any sendable frames, any D for each packet", "base numbers anywhere, wrap-around included"
+unfoldable pub WriterSends : Type 0
+WriterSends =
+    (v : Vocoder) (m : Limits) (l b : ℕ) (es : List ℕ) (d : ℕ → ℕ) (payload : ℕ → List ℕ) →
+    ((n : ℕ) → n ≤ l → packetMade v (Interleaved m) l n b (d n) es ≡ octets (payload n)) →
+    (source sequence timestamp : ℕ) → sequence < 65536 → timestamp < 4294967296 →
+    SentSo v (Interleaved m) source sequence timestamp l b (groupIn v es) payload
+
+-- and so does the header-free writer: a group of one packet of one frame
+unfoldable pub HeaderFreeWriterSends : Type 0
+HeaderFreeWriterSends =
+    (v : Vocoder) → T (tells v v) → (es w : List ℕ) → headerFreeMade v HeaderFree es ≡ octets w →
+    (source sequence timestamp : ℕ) → sequence < 65536 → timestamp < 4294967296 →
+    SentSo v HeaderFree source sequence timestamp 0 1 (groupIn v es) (λ n. w)
+
+-- a holding of the group that names exactly these packets, as a box has it that was offered them
+pub record Part {v : Vocoder} {form : Form} (h : Holding) (g : Sent v form) (ns : List ℕ) : Type 0 where
+  pub box : Box v h
+  pub of-source : h .source ≡ g .source
+  pub base : h .sequence ≡ g .sequence
+  pub time : h .timestamp ≡ g .timestamp
+  pub same-length : h .l ≡ g .l
+  pub same-bundle : h .b ≡ g .b
+  pub knows : (n : ℕ) → n < 8 → knownOf v h n ≡ knowledge g ns n
+
+-- some box was offered packet n
+abbrev pub offeredTo : ℕ → (Holding → List ℕ) → List Holding → Bool
+offeredTo n parts [] = false
+offeredTo n parts (h ∷ hs) = among n (parts h) || offeredTo n parts hs
+
+-- boxes that each were offered a part of the group, joined in any order and grouping, give what one box would hold that was offered all of it
+unfoldable pub BoxesJoin : Type 0
+BoxesJoin =
+    (v : Vocoder) → HasRoom v → (form : Form) (g : Sent v form) (w : Way) (parts : Holding → List ℕ) →
+    ((h : Holding) → Among h (boxes w) → Part h g (parts h)) →
+    (one : Session) (all : List ℕ) → HoldsExactly one g all → ((n : ℕ) → n < 8 → among n all ≡ offeredTo n parts (boxes w)) →
+    outcome v w ≡ done (one .group)
+
+abbrev pub isErasure : Frame → Bool
+isErasure f = eqb (f .type) erasure
+
+-- how many of these frames are erasures
+abbrev pub erasures : List Frame → ℕ
+erasures [] = 0
+erasures (f ∷ fs) = cond (isErasure f) (suc (erasures fs)) (erasures fs)
+
+-- "exactly one packet of two or more is missing": of a group without erasures of its own, all packets but x were offered
+pub record OneMissing {v : Vocoder} {form : Form} (g : Sent v form) (ns : List ℕ) (x : ℕ) : Type 0 where
+  pub two-or-more : 1 ≤ g .l
+  pub in-group : x ≤ g .l
+  pub missing : among x ns ≡ false
+  pub others : (n : ℕ) → n ≤ g .l → (n ≡ x → ⊥) → among n ns ≡ true
+  pub no-erasure : (i : ℕ) → i < length (g .frames) → isErasure (frameAt (g .frames) i) ≡ false
+
+-- "exactly B erasures stand there and no two are neighbours"
+pub record Spread {v : Vocoder} {form : Form} (s : Session) (g : Sent v form) : Type 0 where
+  pub exactly-b : erasures (inTime v (s .group)) ≡ g .b
+  pub no-neighbours : (t : ℕ) → t + 1 < (g .l + 1) * g .b → isErasure (frameAt (inTime v (s .group)) t) ≡ true →
+      isErasure (frameAt (inTime v (s .group)) (t + 1)) ≡ true → ⊥
+
+unfoldable pub OneMissingPacket : Type 0
+OneMissingPacket =
+    (v : Vocoder) → HasRoom v → (form : Form) (g : Sent v form) (s : Session) (ns : List ℕ) → HoldsExactly s g ns → (x : ℕ) → OneMissing g ns x →
+    Spread s g

@@ -1,0 +1,120 @@
+-- Our writers send groups that demand 3 speaks of. Assumes nothing.
+use Prim.Native.Nat.{ℕ, zero, suc, _+_, _*_, _≤_, _<_, zero-le}
+use mathlib.Core.Path.{_≡_, refl, sym, ap, subst, _∙_}
+use mathlib.Core.List.{List, [], _∷_}
+use mathlib.Core.Bool.{Bool, true, false}
+use native.Mathlib.Omega.{arith}
+use lib.ListN.{length}
+use Rattle.octets.proofs.Logic.{apart}
+use Rattle.frame.specs.Table.{Vocoder, Frame, AllListed, Listed}
+use Rattle.frame.specs.Places.{frameAt, upTo}
+use Rattle.frame.specs.Outputs.{octets}
+use Rattle.frame.specs.declared.Limits.{Limits}
+use Rattle.frame.specs.declared.Form.the-variants.{HeaderFree, Interleaved}
+use Rattle.frame.proofs.AgreedLaws.{range-bounds}
+use Rattle.payload.specs.Payload.{packet, readAs}
+use Rattle.recording.specs.Entries.{Recorded, frames, entriesIn, framesIn, allowed}
+use Rattle.recording.specs.Entries as entry
+use Rattle.recording.specs.declared.Rule.the-variants as rule
+use Rattle.recording.proofs.Clearing.{read-any}
+use Rattle.packet.specs.Packet.{placeOf, packetFrames, groupIn}
+use Rattle.packet.specs.Writing.{packetMade, headerFreeMade, oneBody}
+use Rattle.packet.proofs.Packing.{length-packet}
+use Rattle.claims.specs.Packets.{PacketReadAfterWrite, HeaderFreeReadAfterWrite}
+use Rattle.claims.specs.Demand3.{Sent, SentSo, WriterSends, HeaderFreeWriterSends}
+use Rattle.claims.proofs.PacketTrips.{Fit, entries-fit, made-of, packet-read-after-write}
+use Rattle.claims.proofs.PacketBack.{header-free-read-after-write}
+
+fit-listed : (v : Vocoder) (fs : List Frame) → Fit v fs → AllListed v fs
+fit-listed v [] w = tt
+fit-listed v (f ∷ fs) w = (record { type-known = w .0 .known; octets = w .0 .octets }, fit-listed v fs (w .1))
+
+pub writer-sends : WriterSends
+unfolding WriterSends PacketReadAfterWrite
+writer-sends v m l b es d payload made source sequence timestamp hs ht =
+    let x = made-of v m l 0 b (d 0) es (payload 0) (made 0 zero-le) in
+    let w = x .writable in
+    let r = range-bounds m (w .range) in
+    let c = length-packet l 0 b (groupIn v es) in
+    record {
+      group = record {
+        source = source;
+        sequence = sequence;
+        timestamp = timestamp;
+        l = l;
+        b = b;
+        frames = groupIn v es;
+        payload = payload;
+        d = d;
+        sequence-fits = hs;
+        timestamp-fits = ht;
+        low = w .l-small;
+        some = omega (arith, w .some);
+        few = omega (arith, w .few, r .2);
+        many = x .count;
+        listed = fit-listed v (groupIn v es) (x .whole);
+        read = λ n h. packet-read-after-write v m l n b (d n) es (payload n) (made n h);
+      };
+      its-source = refl;
+      its-sequence = refl;
+      its-timestamp = refl;
+      its-l = refl;
+      its-b = refl;
+      its-frames = refl;
+      its-payload = λ n. refl;
+    }
+
+-- one frame is a group of one packet of one frame
+record One (v : Vocoder) (es : List ℕ) : Type 0 where
+  frame : Frame
+  is : groupIn v es ≡ frame ∷ []
+  fits : Fit v (groupIn v es)
+
+one-frame : (v : Vocoder) (es w : List ℕ) → headerFreeMade v HeaderFree es ≡ octets w → One v es
+unfolding headerFreeMade oneBody framesIn
+one-frame v es w e = go (entriesIn v rule.HeaderFree es) refl e
+  where
+    go : (u : Recorded) → entriesIn v rule.HeaderFree es ≡ u → oneBody u ≡ octets w → One v es
+    go (entry.refused r) q x = apart (cc)
+    go (frames []) q x = apart (cc)
+    go (frames (f ∷ k ∷ fs)) q x = apart (cc)
+    go (frames (f ∷ [])) q x =
+        let g : groupIn v es ≡ f ∷ [] = ap framesIn (read-any v rule.HeaderFree es (f ∷ []) q) in
+        record { frame = f; is = g; fits = rw g (entries-fit v (allowed v rule.HeaderFree) (f ∷ []) es 0 q) }
+
+only-packet : (fs : List Frame) (f : Frame) → fs ≡ f ∷ [] → fs ≡ packetFrames 0 0 1 fs
+unfolding packetFrames upTo
+only-packet fs f e = rw e
+
+pub header-free-writer-sends : HeaderFreeWriterSends
+unfolding HeaderFreeWriterSends HeaderFreeReadAfterWrite
+header-free-writer-sends v t es w made source sequence timestamp hs ht =
+    let o = one-frame v es w made in
+    let c : length (groupIn v es) ≡ 1 = ap length (o .is) in
+    record {
+      group = record {
+        source = source;
+        sequence = sequence;
+        timestamp = timestamp;
+        l = 0;
+        b = 1;
+        frames = groupIn v es;
+        payload = λ n. w;
+        d = λ n. 0;
+        sequence-fits = hs;
+        timestamp-fits = ht;
+        low = omega arith;
+        some = omega arith;
+        few = omega arith;
+        many = c;
+        listed = fit-listed v (groupIn v es) (o .fits);
+        read = λ n h. header-free-read-after-write v t es w made ∙ ap (packet 0 0 0) (only-packet (groupIn v es) (o .frame) (o .is)) ∙ ap (λ (i : ℕ). packet 0 i 0 (packetFrames 0 i 1 (groupIn v es))) (sym (let z : n ≡ 0 = omega arith in z));
+      };
+      its-source = refl;
+      its-sequence = refl;
+      its-timestamp = refl;
+      its-l = refl;
+      its-b = refl;
+      its-frames = refl;
+      its-payload = λ n. refl;
+    }

@@ -1,6 +1,6 @@
 -- Boxes that each were offered a part of a group join to what one box would hold. Assumes nothing.
-use Prim.Native.Nat.{ℕ, zero, suc, _+_, _*_, _≤_, _<_}
-use mathlib.Core.Path.{_≡_, refl, sym, ap, subst, _∙_}
+use Prim.Native.Nat.{ℕ, _<_}
+use mathlib.Core.Path.{_≡_, refl, sym, ap, _∙_}
 use mathlib.Core.List.{List, [], _∷_}
 use mathlib.Core.Bool.{Bool, true, false, cond, _||_}
 use mathlib.Core.Logic.{_⊎_, ⊎-elim, inl, inr}
@@ -10,11 +10,9 @@ use Rattle.frame.specs.declared.Form.{Form}
 use Rattle.packet.specs.Packet.{packetFrames}
 use Rattle.holding.specs.Group.{heldAt}
 use Rattle.holding.specs.declared.Holding.{Holding}
-use Rattle.joining.specs.Joining.{sameGroup}
 use Rattle.joining.proofs.Heads.{SameHead, head-group, head-trans, head-sym}
-use Rattle.knowledge.specs.Knowledge.{Box, Known, heard, lost, framesHeard, knownOf, Among}
-use Rattle.knowledge.proofs.JoinLaws.{Sum, HeldBy}
-use Rattle.knowledge.proofs.KnowledgeLaws.{known-held}
+use Rattle.knowledge.specs.Knowledge.{heard, lost, framesHeard, knownOf, Among}
+use Rattle.knowledge.proofs.JoinLaws.{Sum}
 use Rattle.session.specs.declared.Session.{Session}
 use Rattle.claims.specs.Joinings.{HasRoom, Way, boxes, done, outcome, OneGroup, Differ, ElseTheyJoin, NothingLost, EqualKnowledge}
 use Rattle.claims.specs.Demand3.{Sent, among, knowledge, HoldsExactly, Part, offeredTo, BoxesJoin}

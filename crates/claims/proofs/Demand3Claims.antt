@@ -79,7 +79,7 @@ and-false true true false d e f h = refl
 and-false true true true false e f h = refl
 and-false true true true true e f h = rw h
 
-some-held : (v : Vocoder) (h : Holding) → Box v h → isNothing h ≡ false
+pub some-held : (v : Vocoder) (h : Holding) → Box v h → isNothing h ≡ false
 unfolding isNothing
 some-held v h x =
     let b : h .b ≡ 0 → ⊥ = λ e. no-zero (box-sound v h x .some) e in

@@ -10,3 +10,4 @@ pub mod SendingClaims
 pub mod BoxesClaims
 pub mod MissingClaims
 pub mod Outcomes
+pub mod IdleClaims

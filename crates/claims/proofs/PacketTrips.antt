@@ -141,6 +141,7 @@ pub record MadeOf (v : Vocoder) (m : Limits) (l n b d : ℕ) (es w : List ℕ) :
   pub writable : Writable v m l n d (packetFrames l n b (groupIn v es))
   pub count : length (groupIn v es) ≡ (l + 1) * b
   pub whole : Fit v (groupIn v es)
+  pub sent : entriesIn v rule.Sendable es ≡ frames (groupIn v es)
   pub is : w ≡ packed l n d (packetFrames l n b (groupIn v es))
 
 pub made-of : (v : Vocoder) (m : Limits) (l n b d : ℕ) (es w : List ℕ) → packetMade v (Interleaved m) l n b d es ≡ octets w → MadeOf v m l n b d es w
@@ -174,6 +175,7 @@ made-of v m l n b d es w e =
           });
           count = rw f c;
           whole = rw f (entries-fit v (allowed v rule.Sendable) fs es 0 x);
+          sent = x ∙ ap frames (sym f);
           is = rw f (cc (z .1));
         }
 

@@ -1,27 +1,32 @@
 -- Our writers send groups that demand 3 speaks of. Assumes nothing.
-use Prim.Native.Nat.{ℕ, zero, suc, _+_, _*_, _≤_, _<_, zero-le}
+use Prim.Native.Nat.{ℕ, zero, suc, _+_, _-_, _<_, zero-le}
 use mathlib.Core.Path.{_≡_, refl, sym, ap, subst, _∙_}
 use mathlib.Core.List.{List, [], _∷_}
-use mathlib.Core.Bool.{Bool, true, false}
+use mathlib.Core.Bool.{Bool, true, false, not, _&&_}
 use native.Mathlib.Omega.{arith}
-use lib.ListN.{length}
-use Rattle.octets.proofs.Logic.{apart}
-use Rattle.frame.specs.Table.{Vocoder, Frame, AllListed, Listed}
+use lib.ListN.{length, drop, getD}
+use lib.Dec.{T, eqb}
+use borrow.Author.Tests.{eqb-true}
+use Rattle.octets.proofs.Logic.{apart, both-true}
+use Rattle.frame.specs.Table.{Vocoder, Frame, rowOf, size, erasure, lowBits, sendable, sendableAs, AllListed}
 use Rattle.frame.specs.Places.{frameAt, upTo}
 use Rattle.frame.specs.Outputs.{octets}
-use Rattle.frame.specs.declared.Limits.{Limits}
-use Rattle.frame.specs.declared.Form.the-variants.{HeaderFree, Interleaved}
+use Rattle.frame.specs.declared.Form.the-variants.{HeaderFree}
 use Rattle.frame.proofs.AgreedLaws.{range-bounds}
-use Rattle.payload.specs.Payload.{packet, readAs}
-use Rattle.recording.specs.Entries.{Recorded, frames, entriesIn, framesIn, allowed}
+use Rattle.payload.specs.Payload.{packet}
+use Rattle.recording.specs.Entries.{Recorded, frames, entries, entriesIn, framesIn, allowed}
+use Rattle.recording.proofs.EntryLaws.{entry as inverted}
+use Rattle.frame.specs.Entry.{typeOf}
+use Rattle.frame.specs.declared.Lookup.{Lookup}
+use Rattle.frame.specs.declared.Lookup.the-variants.{Found, Missing}
 use Rattle.recording.specs.Entries as entry
 use Rattle.recording.specs.declared.Rule.the-variants as rule
 use Rattle.recording.proofs.Clearing.{read-any}
-use Rattle.packet.specs.Packet.{placeOf, packetFrames, groupIn}
-use Rattle.packet.specs.Writing.{packetMade, headerFreeMade, oneBody}
+use Rattle.packet.specs.Packet.{packetFrames, groupIn}
+use Rattle.packet.specs.Writing.{headerFreeMade, oneBody}
 use Rattle.packet.proofs.Packing.{length-packet}
 use Rattle.claims.specs.Packets.{PacketReadAfterWrite, HeaderFreeReadAfterWrite}
-use Rattle.claims.specs.Demand3.{Sent, SentSo, WriterSends, HeaderFreeWriterSends}
+use Rattle.claims.specs.Demand3.{WriterSends, HeaderFreeWriterSends, isErasure, sentOf, neverSent, WriterSendsNoErasure, EvrcNeverSendsErasures}
 use Rattle.claims.proofs.PacketTrips.{Fit, entries-fit, made-of, packet-read-after-write}
 use Rattle.claims.proofs.PacketBack.{header-free-read-after-write}
 
@@ -118,3 +123,46 @@ header-free-writer-sends v t es w made source sequence timestamp hs ht =
       its-frames = refl;
       its-payload = λ n. refl;
     }
+
+-- ---- no erasure is sent
+pub evrc-never-sends-erasures : EvrcNeverSendsErasures
+unfolding EvrcNeverSendsErasures rowOf
+evrc-never-sends-erasures = tt
+
+abbrev NoErasures : List Frame → Type 0
+NoErasures [] = Unit {0}
+NoErasures (f ∷ fs) = (isErasure f ≡ false) × NoErasures fs
+
+no-erasure-at : (fs : List Frame) (i : ℕ) → NoErasures fs → i < length fs → isErasure (frameAt fs i) ≡ false
+no-erasure-at [] i a h = absurd (omega arith)
+no-erasure-at (f ∷ fs) zero a h = a .0
+no-erasure-at (f ∷ fs) (suc i) a h = no-erasure-at fs i (a .1) (omega arith)
+
+sendable-sent : (v : Vocoder) → T (neverSent v) → (f : Frame) → sendable v (f .type) (f .body) ≡ true → isErasure f ≡ false
+sendable-sent v t f e = go (eqb (f .type) erasure) refl
+  where
+    not-sent : (k : Lookup) → T (not (sentOf k)) → (b : List ℕ) → sendableAs k b ≡ true → ⊥
+    not-sent Missing x b q = apart (cc)
+    not-sent (Found r) x b q = both (r .sent) x (both-true (eqb (length b) (r .octets) && eqb (lowBits (getD b (r .octets - 1) 0) (r .spare)) 0) (r .sent) q .1)
+      where
+        both : (u : Bool) → T (not u) → u ≡ true → ⊥
+        both true y z = y
+        both false y z = apart (cc)
+
+    go : (u : Bool) → eqb (f .type) erasure ≡ u → eqb (f .type) erasure ≡ false
+    go true q =
+        let z : sendable v erasure (f .body) ≡ true = subst (λ (y : ℕ). sendable v y (f .body) ≡ true) (eqb-true (f .type) erasure q) e in
+        absurd (not-sent (rowOf v erasure) t (f .body) z)
+    go false q = q
+
+entries-sent : (v : Vocoder) → T (neverSent v) → (fs : List Frame) (p : List ℕ) (at : ℕ) → entries v (allowed v rule.Sendable) 0 (drop at p) ≡ frames fs → NoErasures fs
+unfolding allowed
+entries-sent v t [] p at e = tt
+entries-sent v t (f ∷ fs) p at e =
+    let x = inverted v (allowed v rule.Sendable) p at f fs e in
+    (sendable-sent v t f (x .allowed), entries-sent v t fs p (at + 1 + size v (typeOf (getD p at 0))) (x .rest))
+
+pub writer-sends-no-erasure : WriterSendsNoErasure
+unfolding WriterSendsNoErasure
+writer-sends-no-erasure v t m l n b d es w e i h =
+    no-erasure-at (groupIn v es) i (entries-sent v t (groupIn v es) es 0 (made-of v m l n b d es w e .sent)) h

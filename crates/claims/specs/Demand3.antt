@@ -4,19 +4,20 @@
 use Prim.Native.Nat.{ℕ, suc, _+_, _*_, _%_, _≤_, _<_}
 use mathlib.Core.Path.{_≡_}
 use mathlib.Core.List.{List, [], _∷_}
-use mathlib.Core.Bool.{Bool, true, false, cond, _||_}
+use mathlib.Core.Bool.{Bool, true, false, not, cond, _||_}
 use lib.Dec.{T, eqb, leb}
 use lib.ListN.{length}
-use Rattle.frame.specs.Table.{Vocoder, Frame, AllListed, erasure}
+use Rattle.frame.specs.Table.{Vocoder, Frame, evrc, rowOf, AllListed, erasure}
 use Rattle.frame.specs.Places.{frameAt}
 use Rattle.frame.specs.declared.Form.{Form}
 use Rattle.payload.specs.Payload.{packet, readAs}
 use Rattle.packet.specs.Packet.{placeOf, packetFrames, groupIn}
 use Rattle.packet.specs.Writing.{packetMade, headerFreeMade}
 use Rattle.frame.specs.declared.Limits.{Limits}
+use Rattle.frame.specs.declared.Lookup.{Lookup}
+use Rattle.frame.specs.declared.Lookup.the-variants.{Found, Missing}
 use Rattle.frame.specs.declared.Form.the-variants.{HeaderFree, Interleaved}
 use Rattle.frame.specs.Outputs.{octets}
-use Rattle.claims.specs.Packets.{tells}
 use Rattle.holding.specs.Bases.{minus}
 use Rattle.holding.specs.Group.{isNothing}
 use Rattle.holding.specs.declared.Holding.{Holding}
@@ -26,6 +27,7 @@ use Rattle.session.specs.Session.{isOpen, offered}
 use Rattle.session.specs.declared.Session.{Session}
 use Rattle.session.specs.declared.Offered.{Offered}
 use Rattle.session.specs.declared.Taken.the-variants.{Accepted}
+use Rattle.claims.specs.Packets.{tells}
 use Rattle.claims.specs.Joinings.{HasRoom, Way, boxes, done, outcome}
 use Rattle.claims.specs.Sessions.{lostBefore}
 
@@ -189,3 +191,20 @@ unfoldable pub OneMissingPacket : Type 0
 OneMissingPacket =
     (v : Vocoder) → HasRoom v → (form : Form) (g : Sent v form) (s : Session) (ns : List ℕ) → HoldsExactly s g ns → (x : ℕ) → OneMissing g ns x →
     Spread s g
+
+-- an erasure is not to be sent
+abbrev pub sentOf : Lookup → Bool
+sentOf (Found r) = r .sent
+sentOf Missing = false
+
+abbrev pub neverSent : Vocoder → Bool
+neverSent v = not (sentOf (rowOf v erasure))
+
+-- a group that our writer sends has no erasure of its own
+unfoldable pub WriterSendsNoErasure : Type 0
+WriterSendsNoErasure =
+    (v : Vocoder) → T (neverSent v) → (m : Limits) (l n b d : ℕ) (es w : List ℕ) → packetMade v (Interleaved m) l n b d es ≡ octets w →
+    (i : ℕ) → i < length (groupIn v es) → isErasure (frameAt (groupIn v es) i) ≡ false
+
+unfoldable pub EvrcNeverSendsErasures : Type 0
+EvrcNeverSendsErasures = T (neverSent evrc)

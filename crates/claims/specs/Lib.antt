@@ -5,4 +5,5 @@ pub mod Packets
 pub mod Joinings
 pub mod Sessions
 pub mod Demand3
+pub mod Idle
 pub mod Determined

@@ -12,15 +12,13 @@ use Rattle.holding.specs.Group.{heldAt}
 use Rattle.holding.specs.declared.Holding.{Holding}
 use Rattle.joining.proofs.Heads.{SameHead, head-group, head-trans, head-sym}
 use Rattle.knowledge.specs.Knowledge.{heard, lost, framesHeard, knownOf, Among}
+use Rattle.knowledge.proofs.KnowledgeLaws.{heard-same}
 use Rattle.knowledge.proofs.JoinLaws.{Sum}
 use Rattle.session.specs.declared.Session.{Session}
 use Rattle.claims.specs.Joinings.{HasRoom, Way, boxes, done, outcome, OneGroup, Differ, ElseTheyJoin, NothingLost, EqualKnowledge}
 use Rattle.claims.specs.Demand3.{Sent, among, knowledge, HoldsExactly, Part, offeredTo, BoxesJoin}
 use Rattle.claims.proofs.JoiningClaims.{some-box, done-sum, else-they-join, nothing-lost, equal-knowledge}
 use Rattle.claims.proofs.Demand3Claims.{known-lost}
-
-heard-same : {fs gs : List Frame} → heard fs ≡ heard gs → fs ≡ gs
-heard-same e = cc
 
 module _ (v : Vocoder) (form : Form) (g : Sent v form) where
   abbrev framesOf : ℕ → List Frame

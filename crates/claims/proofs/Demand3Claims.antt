@@ -25,12 +25,11 @@ use Rattle.pouring.specs.Pouring.{inTime}
 use Rattle.knowledge.specs.Knowledge.{Box, Known, heard, lost, framesHeard, knownOf, frameKnown}
 use Rattle.holding.proofs.GroupLaws.{holds-sound}
 use Rattle.knowledge.proofs.JoinLaws.{box-sound}
-use Rattle.knowledge.proofs.KnowledgeLaws.{known-held, heard-laid}
+use Rattle.knowledge.proofs.KnowledgeLaws.{known-held, heard-laid, heard-same}
 use Rattle.knowledge.proofs.PacketLaws.{packets-refl, listed-upTo}
 use Rattle.knowledge.proofs.PutLaws.{Keeps, with-head, put-box, put-knows, put-others, begun-keeps, begun-lost}
 use Rattle.session.specs.Session.{formRight, lastRight, groupRight, isOpen, accept, refuse, withGroup, sameBase, atDistance, inGroup, begins, noGroup, placed, arrival, judged, offered}
 use Rattle.session.proofs.SessionLaws.{next-group, first-group}
-use Rattle.joining.proofs.Heads.{SameHead}
 use Rattle.session.specs.declared.Session.{Session}
 use Rattle.session.specs.declared.Offered.{Offered}
 use Rattle.session.specs.declared.Arrival.{Arrival}
@@ -149,13 +148,10 @@ module _ (v : Vocoder) (m : HasRoom v) (form : Form) (g : Sent v form) (n : ℕ)
     again e =
         let k : knownOf v (s .group) n ≡ heard ours = x .knows n small ∙ rw e in
         let t : heldAt (s .group) n ≡ true = known-held v (s .group) n ours k in
-        let f : framesHeard v (s .group) n ≡ ours = heard-are (rw t at k) in
+        let f : framesHeard v (s .group) n ≡ ours = heard-same (rw t at k) in
         let q : samePackets (packetOf (s .group) n) (laid ours) ≡ true =
         rw (heard-laid v (m .short) (m .erasing) (s .group) (x .box) n small t ∙ ap laid f) (packets-refl (laid ours)) in
         in-place ∙ by-held ∙ rw (t, q)
-      where
-        heard-are : {fs gs : List Frame} → heard fs ≡ heard gs → fs ≡ gs
-        heard-are i = cc
 
     -- not held yet
     added : among n ds ≡ false → offerOne s g n ≡ accept (withGroup s (withPacket (s .group) n (laid ours))) 0
@@ -306,9 +302,6 @@ module _ (v : Vocoder) (m : HasRoom v) (form : Form) (g : Sent v form) (n : ℕ)
 
   keeps-none : Keeps v none
   keeps-none = begun-keeps (g .source) (g .sequence) (g .timestamp) (g .l) (g .b) v (g .low) (g .some) (g .few)
-
-  none-head : SameHead first none
-  none-head = with-head none n (laid mine)
 
   le-none : n ≤ none .l
   unfolding begun

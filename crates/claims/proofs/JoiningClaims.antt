@@ -7,11 +7,11 @@ use mathlib.Core.Logic.{_⊎_, ⊎-elim, inl, inr}
 use native.Mathlib.Omega.{arith}
 use native.Mathlib.Nat.{mul-comm}
 use Rattle.octets.proofs.Logic.{apart}
-use Rattle.frame.specs.Table.{Vocoder, Frame}
+use Rattle.frame.specs.Table.{Vocoder}
 use Rattle.frame.specs.declared.Refusal.the-variants.{PacketDiffers}
 use Rattle.frame.proofs.TableLaws.{evrc-erases}
 use Rattle.joining.specs.Joining.{sameGroup, agree, either, refusedJoin, joinOf}
-use Rattle.knowledge.specs.Knowledge.{Box, heard, framesHeard, knownOf, Among}
+use Rattle.knowledge.specs.Knowledge.{Box, framesHeard, knownOf, Among}
 use Rattle.holding.specs.LaidOut.{laid}
 use Rattle.pouring.proofs.PourLaws.{count-rows, rows-at, pour-all}
 use Rattle.holding.specs.declared.Holding.{Holding}
@@ -20,7 +20,7 @@ use Rattle.joining.specs.declared.Joined.{Joined}
 use Rattle.joining.proofs.Heads.{SameHead, group-head, head-group, head-refl, head-sym, head-trans}
 use Rattle.knowledge.proofs.Cells.{cell}
 use Rattle.knowledge.proofs.JoinLaws.{Sum, sum-one, sum-both, sum-agree, sum-differ, sum-same, Clash, join-is, in-left, in-right, in-either, agree-when, agree-at, meets-same, cell-on, box-sound, unlike-at}
-use Rattle.knowledge.proofs.KnowledgeLaws.{known-cell, known-held, known-frame, heard-laid, same-known}
+use Rattle.knowledge.proofs.KnowledgeLaws.{known-cell, known-held, known-frame, heard-laid, same-known, heard-same}
 use Rattle.claims.specs.Joinings.{HasRoom, EvrcHasRoom, Way, only, joining, boxes, done, joinAnswers, outcome, OneGroup, SameBoxes, EveryOrderAndGrouping, EveryPermutation, WithItself, Differ, DifferenceEndsIn14, Joins, ElseTheyJoin, NothingLost, NothingInvented, EqualKnowledge, EveryPlaceInTime}
 
 pub evrc-has-room : EvrcHasRoom
@@ -157,9 +157,6 @@ with-itself v h x = every-order-and-grouping v (joining (only h) (only h)) (only
 
     same : SameBoxes (h ∷ h ∷ []) (h ∷ [])
     same = (λ a i. inl (alone a i), λ a i. inr i)
-
-heard-same : {fs gs : List Frame} → heard fs ≡ heard gs → fs ≡ gs
-heard-same e = cc
 
 -- ---- two boxes that differ in a packet do not agree, and two that do not agree differ in one
 module _ (v : Vocoder) (m : HasRoom v) (a b : Holding) (x : Box v a) (y : Box v b) (g : sameGroup a b ≡ true) where

@@ -20,7 +20,7 @@ use Rattle.knowledge.proofs.Cells.{Cell, cell, packet-sized, cells-ext}
 use Rattle.knowledge.proofs.PacketLaws.{frameOf, frame-in, erased-frame, right-laid}
 use Rattle.knowledge.proofs.JoinLaws.{box-sound, box-blank, right-held}
 
-upTo-same : {A : Type 0} (f g : ℕ → A) (n : ℕ) → ((k : ℕ) → k < n → f k ≡ g k) → upTo f n ≡ upTo g n
+pub upTo-same : {A : Type 0} (f g : ℕ → A) (n : ℕ) → ((k : ℕ) → k < n → f k ≡ g k) → upTo f n ≡ upTo g n
 unfolding upTo
 upTo-same f g zero h = refl
 upTo-same {A} f g (suc n) h = ap₂ (λ (xs : List A) (x : A). xs ++ (x ∷ [])) (upTo-same f g n (λ k q. h k (omega arith))) (h n (omega arith))
@@ -82,3 +82,6 @@ known-held v h n fs e = go (heldAt h n) refl e
     go : (t : Bool) → heldAt h n ≡ t → cond t (heard (framesHeard v h n)) lost ≡ heard fs → heldAt h n ≡ true
     go true q x = q
     go false q x = apart (cc)
+
+pub heard-same : {fs gs : List Frame} → heard fs ≡ heard gs → fs ≡ gs
+heard-same e = cc

@@ -2,7 +2,7 @@
 use Prim.Native.Nat.{ℕ, zero, suc, _+_, _*_, _≤_, _<_}
 use mathlib.Core.Bool.{Bool, true, false}
 use mathlib.Core.Path.{_≡_, refl, sym, ap, ap₂, subst, _∙_}
-use mathlib.Core.List.{List, [], _∷_, _++_}
+use mathlib.Core.List.{List, [], _∷_}
 use native.Mathlib.Omega.{arith}
 use lib.ListN.{length, take, drop, set, replicate, length-take, length-drop, length-replicate, getD-replicate}
 use lib.Seq.{take-at, ext-getD, getD-take, getD-drop}
@@ -22,18 +22,13 @@ use Rattle.joining.proofs.Heads.{SameHead}
 use Rattle.knowledge.specs.Knowledge.{Shaped, Box, heard, framesHeard, knownOf}
 use Rattle.knowledge.proofs.Cells.{Sized, Cell, cell, with-shaped, with-here, with-other}
 use Rattle.knowledge.proofs.PacketLaws.{frameOf, laid-sized, laid-mark, laid-room, laid-right, packets-refl}
-use Rattle.knowledge.proofs.KnowledgeLaws.{heard-frames, known-cell}
+use Rattle.knowledge.proofs.KnowledgeLaws.{upTo-same, heard-frames, known-cell}
 
 -- ---- the frames of a packet that was laid out are the frames
 upTo-all : (fs : List Frame) → upTo (frameAt fs) (length fs) ≡ fs
 upTo-all fs =
     ext-getD noFrame (upTo (frameAt fs) (length fs)) fs (length-upTo (frameAt fs) (length fs))
     (λ k h. upTo-at (frameAt fs) (length fs) k noFrame (omega (arith, length-upTo (frameAt fs) (length fs))))
-
-upTo-like : (f g : ℕ → Frame) (n : ℕ) → ((k : ℕ) → k < n → f k ≡ g k) → upTo f n ≡ upTo g n
-unfolding upTo
-upTo-like f g zero h = refl
-upTo-like f g (suc n) h = ap₂ (λ (xs : List Frame) (x : Frame). xs ++ (x ∷ [])) (upTo-like f g n (λ k q. h k (omega arith))) (h n (omega arith))
 
 module _ (v : Vocoder) (w : T (within 22 v)) (fs : List Frame) (few : length fs ≤ 10) (a : AllListed v fs) where
   laid-frame : (k : ℕ) → k < length fs → frameOf v (laid fs) k ≡ frameAt fs k
@@ -47,7 +42,7 @@ module _ (v : Vocoder) (w : T (within 22 v)) (fs : List Frame) (few : length fs 
       rw (m, r) (ap (λ (x : List ℕ). record { type = f .type; body = x }) b)
 
   pub laid-frames : upTo (frameOf v (laid fs)) (length fs) ≡ fs
-  laid-frames = upTo-like (frameOf v (laid fs)) (frameAt fs) (length fs) laid-frame ∙ upTo-all fs
+  laid-frames = upTo-same (frameOf v (laid fs)) (frameAt fs) (length fs) laid-frame ∙ upTo-all fs
 
 -- ---- a holding that keeps the rule, a packet held or none
 pub record Keeps (v : Vocoder) (h : Holding) : Type 0 where

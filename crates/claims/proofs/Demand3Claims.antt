@@ -28,16 +28,19 @@ use Rattle.knowledge.proofs.JoinLaws.{box-sound}
 use Rattle.knowledge.proofs.KnowledgeLaws.{known-held, heard-laid, heard-same}
 use Rattle.knowledge.proofs.PacketLaws.{packets-refl, listed-upTo}
 use Rattle.knowledge.proofs.PutLaws.{Keeps, with-head, put-box, put-knows, put-others, begun-keeps, begun-lost}
-use Rattle.session.specs.Session.{formRight, lastRight, groupRight, isOpen, accept, refuse, withGroup, sameBase, atDistance, inGroup, begins, noGroup, placed, arrival, judged, offered}
+use Rattle.session.specs.Session.{formRight, lastRight, groupRight, isOpen, accept, refuse, withGroup, sameBase, atDistance, inGroup, begins, noGroup, placed, arrival, judged, offered, pourMade}
 use Rattle.session.proofs.SessionLaws.{next-group, first-group}
 use Rattle.session.specs.declared.Session.{Session}
 use Rattle.session.specs.declared.Offered.{Offered}
 use Rattle.session.specs.declared.Arrival.{Arrival}
 use Rattle.session.specs.declared.Taken.the-variants.{Accepted}
+use Rattle.frame.specs.Outputs.{octets}
+use Rattle.recording.specs.Entries.{entriesOf}
 use Rattle.claims.specs.Joinings.{HasRoom, EveryPlaceInTime}
-use Rattle.claims.specs.Sessions.{lostBefore}
+use Rattle.claims.specs.Sessions.{lostBefore, bodyOctets}
 use Rattle.claims.specs.Demand3.{Sent, offerOne, offerAll, AllAccepted, Ready, Within, among, knowledge, HoldsExactly, PouredPlaces, Demand3}
 use Rattle.claims.proofs.JoiningClaims.{every-place-in-time}
+use Rattle.claims.proofs.SessionClaims.{entries-length}
 
 -- ---- the base numbers of a packet that was numbered and stamped
 base-back : (s n : ℕ) → s < 65536 → n < 8 → baseSequence ((s + n) % 65536) n ≡ s
@@ -400,10 +403,23 @@ places-of v m form s g ns x =
         ap (λ (l : ℕ). frameAt (inTime v (s .group)) (placeOf l n k)) (sym (x .same-length))
         ∙ every-place-in-time v m (s .group) (x .box) .places n k (omega (arith, x .same-length)) (omega (arith, x .same-bundle))
 
+-- an open session pours its group's places
+pours : (v : Vocoder) → HasRoom v → (s : Session) → isOpen v s ≡ true → Box v (s .group) → pourMade v s ≡ octets (entriesOf (inTime v (s .group)))
+unfolding EveryPlaceInTime pourMade
+pours v m s o x = rw o (every-place-in-time v m (s .group) x .entries)
+
 pub demand-3 : Demand3
 unfolding Demand3 AllAccepted offerAll
 demand-3 v m form g s y n ns w =
     let f = begins-group v m form g n (w .0) s y in
     let r = offers v m form g (offerOne s g n .session) (n ∷ []) ns (f .after) (w .1) in
     let x = exactly-as (offerAll (offerOne s g n .session) g ns) g (spread (n ∷ []) ns) (n ∷ ns) (λ i. spread-among i (n ∷ []) ns ∙ or-turn (among i ns) (eqb i n)) (r .after) in
-    record { accepted = (f .told, r .told); exactly = x; places = places-of v m form (offerAll (offerOne s g n .session) g ns) g (n ∷ ns) x }
+    let t = offerAll (offerOne s g n .session) g ns in
+    let p = places-of v m form t g (n ∷ ns) x in
+    record {
+      accepted = (f .told, r .told);
+      exactly = x;
+      places = p;
+      poured = pours v m t (x .still-open) (x .box);
+      octet-count = entries-length (inTime v (t .group)) ∙ ap (λ (i : ℕ). i + bodyOctets (inTime v (t .group))) (p .count);
+    }

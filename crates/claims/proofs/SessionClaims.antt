@@ -170,7 +170,7 @@ repeat-changes-nothing v s o q t l n d fs x p r =
     simp (o, eq-eqb (s .source) (s .source) refl, r, x .some, x .base, eq-eqb _ _ (x .same-length), eq-eqb _ _ (x .same-bundle), eq-eqb _ _ (x .time), x .held, z)
 
 -- ---- the octet count
-entries-length : (fs : List Frame) → length (entriesOf fs) ≡ length fs + bodyOctets fs
+pub entries-length : (fs : List Frame) → length (entriesOf fs) ≡ length fs + bodyOctets fs
 entries-length [] = refl
 entries-length (f ∷ fs) = omega (arith, length-append (f .body) (entriesOf fs), entries-length fs)
 

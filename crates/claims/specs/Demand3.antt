@@ -23,13 +23,14 @@ use Rattle.holding.specs.Group.{isNothing}
 use Rattle.holding.specs.declared.Holding.{Holding}
 use Rattle.pouring.specs.Pouring.{inTime}
 use Rattle.knowledge.specs.Knowledge.{Box, Known, heard, lost, knownOf, Among}
-use Rattle.session.specs.Session.{isOpen, offered}
+use Rattle.session.specs.Session.{isOpen, offered, pourMade}
+use Rattle.recording.specs.Entries.{entriesOf}
 use Rattle.session.specs.declared.Session.{Session}
 use Rattle.session.specs.declared.Offered.{Offered}
 use Rattle.session.specs.declared.Taken.the-variants.{Accepted}
 use Rattle.claims.specs.Packets.{tells}
 use Rattle.claims.specs.Joinings.{HasRoom, Way, boxes, done, outcome}
-use Rattle.claims.specs.Sessions.{lostBefore}
+use Rattle.claims.specs.Sessions.{lostBefore, bodyOctets}
 
 -- a group as it was written: its numbers, its frames in time order, and the payload of each packet, which is read as that packet's frames
 pub record Sent (v : Vocoder) (form : Form) : Type 0 where
@@ -105,11 +106,13 @@ pub record PouredPlaces {v : Vocoder} {form : Form} (s : Session) (g : Sent v fo
   pub original : (n k : ℕ) → n ≤ g .l → k < g .b → among n ns ≡ true → frameAt (inTime v (s .group)) (placeOf (g .l) n k) ≡ frameAt (g .frames) (placeOf (g .l) n k)
   pub erased : (n k : ℕ) → n ≤ g .l → k < g .b → among n ns ≡ false → frameAt (inTime v (s .group)) (placeOf (g .l) n k) ≡ record { type = erasure; body = [] }
 
--- the third demand
+-- the third demand: what is offered is accepted, held, and poured, and both counts are those of the formulas
 pub record Delivered {v : Vocoder} {form : Form} (s : Session) (g : Sent v form) (n : ℕ) (ns : List ℕ) : Type 0 where
   pub accepted : AllAccepted s g (lostBefore s (g .sequence)) (n ∷ ns)
   pub exactly : HoldsExactly (offerAll s g (n ∷ ns)) g (n ∷ ns)
   pub places : PouredPlaces (offerAll s g (n ∷ ns)) g (n ∷ ns)
+  pub poured : pourMade v (offerAll s g (n ∷ ns)) ≡ octets (entriesOf (inTime v (offerAll s g (n ∷ ns) .group)))
+  pub octet-count : length (entriesOf (inTime v (offerAll s g (n ∷ ns) .group))) ≡ (g .l + 1) * g .b + bodyOctets (inTime v (offerAll s g (n ∷ ns) .group))
 
 unfoldable pub Demand3 : Type 0
 Demand3 =

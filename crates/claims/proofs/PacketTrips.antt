@@ -119,7 +119,7 @@ pub record Writable (v : Vocoder) (m : Limits) (l n d : ℕ) (fs : List Frame) :
   pub few : length fs ≤ m .«max_b»
   pub fit : Fit v fs
 
-packed-back : (v : Vocoder) (m : Limits) (l n d : ℕ) (fs : List Frame) → Writable v m l n d fs → readAs v (Interleaved m) (packed l n d fs) ≡ packet l n d fs
+pub packed-back : (v : Vocoder) (m : Limits) (l n d : ℕ) (fs : List Frame) → Writable v m l n d fs → readAs v (Interleaved m) (packed l n d fs) ≡ packet l n d fs
 unfolding readAs interleaved bodies
 packed-back v m l n d fs w =
     let a : lOf (l * 8 + n) ≡ l = omega (arith, w .l-small, w .n-below) in

@@ -11,9 +11,10 @@ use Rattle.octets.proofs.Logic.{apart, both-true}
 use Rattle.frame.specs.Table.{Vocoder, Frame, rowOf, size, erasure, lowBits, sendable, sendableAs, AllListed}
 use Rattle.frame.specs.Places.{frameAt, upTo}
 use Rattle.frame.specs.Outputs.{octets}
-use Rattle.frame.specs.declared.Form.the-variants.{HeaderFree}
+use Rattle.frame.specs.declared.Limits.{Limits}
+use Rattle.frame.specs.declared.Form.the-variants.{HeaderFree, Interleaved}
 use Rattle.frame.proofs.AgreedLaws.{range-bounds}
-use Rattle.payload.specs.Payload.{packet}
+use Rattle.payload.specs.Payload.{packet, readAs}
 use Rattle.recording.specs.Entries.{Recorded, frames, entries, entriesIn, framesIn, allowed}
 use Rattle.recording.proofs.EntryLaws.{entry as inverted}
 use Rattle.frame.specs.Entry.{typeOf}
@@ -23,20 +24,39 @@ use Rattle.recording.specs.Entries as entry
 use Rattle.recording.specs.declared.Rule.the-variants as rule
 use Rattle.recording.proofs.Clearing.{read-any}
 use Rattle.packet.specs.Packet.{packetFrames, groupIn}
-use Rattle.packet.specs.Writing.{headerFreeMade, oneBody}
+use Rattle.packet.specs.Writing.{headerFreeMade, oneBody, packetMade}
 use Rattle.packet.proofs.Packing.{length-packet}
-use Rattle.claims.specs.Packets.{PacketReadAfterWrite, HeaderFreeReadAfterWrite}
-use Rattle.claims.specs.Demand3.{WriterSends, HeaderFreeWriterSends, isErasure, sentOf, neverSent, WriterSendsNoErasure, EvrcNeverSendsErasures}
-use Rattle.claims.proofs.PacketTrips.{Fit, entries-fit, made-of, packet-read-after-write}
+use Rattle.claims.specs.Packets.{HeaderFreeReadAfterWrite}
+use Rattle.claims.specs.Demand3.{Admits, WriterSends, HeaderFreeWriterSends, isErasure, sentOf, neverSent, WriterSendsNoErasure, EvrcNeverSendsErasures}
+use Rattle.claims.proofs.PacketTrips.{Fit, entries-fit, made-of, packed-back}
 use Rattle.claims.proofs.PacketBack.{header-free-read-after-write}
 
 fit-listed : (v : Vocoder) (fs : List Frame) → Fit v fs → AllListed v fs
 fit-listed v [] w = tt
 fit-listed v (f ∷ fs) w = (record { type-known = w .0 .known; octets = w .0 .octets }, fit-listed v fs (w .1))
 
+-- a packet that was written is read back under any limits that admit it
+admitted : (v : Vocoder) (m limits : Limits) (l n b d : ℕ) (es w : List ℕ) → Admits limits l b → packetMade v (Interleaved m) l n b d es ≡ octets w → readAs v (Interleaved limits) w ≡ packet l n d (packetFrames l n b (groupIn v es))
+admitted v m limits l n b d es w ok e =
+    let x = made-of v m l n b d es w e in
+    let y = x .writable in
+    let c = length-packet l n b (groupIn v es) in
+    ap (readAs v (Interleaved limits)) (x .is)
+    ∙ packed-back v limits l n d (packetFrames l n b (groupIn v es))
+    (record {
+      range = ok .in-range;
+      l-max = ok .long-enough;
+      l-small = y .l-small;
+      n-below = y .n-below;
+      d-bit = y .d-bit;
+      some = y .some;
+      few = omega (arith, ok .wide-enough);
+      fit = y .fit;
+    })
+
 pub writer-sends : WriterSends
-unfolding WriterSends PacketReadAfterWrite
-writer-sends v m l b es d payload made source sequence timestamp hs ht =
+unfolding WriterSends
+writer-sends v m l b es d payload made source sequence timestamp hs ht limits ok =
     let x = made-of v m l 0 b (d 0) es (payload 0) (made 0 zero-le) in
     let w = x .writable in
     let r = range-bounds m (w .range) in
@@ -58,7 +78,7 @@ writer-sends v m l b es d payload made source sequence timestamp hs ht =
         few = omega (arith, w .few, r .2);
         many = x .count;
         listed = fit-listed v (groupIn v es) (x .whole);
-        read = λ n h. packet-read-after-write v m l n b (d n) es (payload n) (made n h);
+        read = λ n h. admitted v m limits l n b (d n) es (payload n) ok (made n h);
       };
       its-source = refl;
       its-sequence = refl;

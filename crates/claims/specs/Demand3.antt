@@ -13,6 +13,7 @@ use Rattle.frame.specs.declared.Form.{Form}
 use Rattle.payload.specs.Payload.{packet, readAs}
 use Rattle.packet.specs.Packet.{placeOf, packetFrames, groupIn}
 use Rattle.packet.specs.Writing.{packetMade, headerFreeMade}
+use Rattle.frame.specs.Agreed.{inRange}
 use Rattle.frame.specs.declared.Limits.{Limits}
 use Rattle.frame.specs.declared.Lookup.{Lookup}
 use Rattle.frame.specs.declared.Lookup.the-variants.{Found, Missing}
@@ -130,13 +131,19 @@ pub record SentSo (v : Vocoder) (form : Form) (source sequence timestamp l b : �
   pub its-frames : group .frames ≡ frames
   pub its-payload : (n : ℕ) → group .payload n ≡ payload n
 
--- our writer sends such a group: "any L, B, any sendable frames, any D for each packet", "base numbers anywhere, wrap-around included"
+-- "limits that admit it"
+pub record Admits (m : Limits) (l b : ℕ) : Type 0 where
+  pub in-range : inRange m ≡ true
+  pub long-enough : l ≤ m .«max_l»
+  pub wide-enough : b ≤ m .«max_b»
+
+-- our writer sends such a group, whatever limits it was written under, to a session of the form under limits that admit it: "any L, B, any sendable frames, any D for each packet", "base numbers anywhere, wrap-around included"
 unfoldable pub WriterSends : Type 0
 WriterSends =
     (v : Vocoder) (m : Limits) (l b : ℕ) (es : List ℕ) (d : ℕ → ℕ) (payload : ℕ → List ℕ) →
     ((n : ℕ) → n ≤ l → packetMade v (Interleaved m) l n b (d n) es ≡ octets (payload n)) →
-    (source sequence timestamp : ℕ) → sequence < 65536 → timestamp < 4294967296 →
-    SentSo v (Interleaved m) source sequence timestamp l b (groupIn v es) payload
+    (source sequence timestamp : ℕ) → sequence < 65536 → timestamp < 4294967296 → (limits : Limits) → Admits limits l b →
+    SentSo v (Interleaved limits) source sequence timestamp l b (groupIn v es) payload
 
 -- and so does the header-free writer: a group of one packet of one frame
 unfoldable pub HeaderFreeWriterSends : Type 0

@@ -14,9 +14,8 @@ use Rattle.joining.proofs.Heads.{SameHead, head-group, head-trans, head-sym}
 use Rattle.knowledge.specs.Knowledge.{heard, lost, framesHeard, knownOf, Among}
 use Rattle.knowledge.proofs.KnowledgeLaws.{heard-same}
 use Rattle.knowledge.proofs.JoinLaws.{Sum}
-use Rattle.session.specs.declared.Session.{Session}
 use Rattle.claims.specs.Joinings.{HasRoom, Way, boxes, done, outcome, OneGroup, Differ, ElseTheyJoin, NothingLost, EqualKnowledge}
-use Rattle.claims.specs.Demand3.{Sent, among, knowledge, HoldsExactly, Part, offeredTo, BoxesJoin}
+use Rattle.claims.specs.Demand3.{Sent, among, knowledge, Part, offeredTo, BoxesJoin}
 use Rattle.claims.proofs.JoiningClaims.{some-box, done-sum, else-they-join, nothing-lost, equal-knowledge}
 use Rattle.claims.proofs.Demand3Claims.{known-lost}
 
@@ -41,25 +40,12 @@ module _ (v : Vocoder) (form : Form) (g : Sent v form) where
   same-head : (a b : Holding) (ns ms : List ℕ) → Part a g ns → Part b g ms → SameHead a b
   same-head a b ns ms x y =
       record {
-        source = x .of-source ∙ sym (y .of-source);
-        sequence = x .base ∙ sym (y .base);
-        timestamp = x .time ∙ sym (y .time);
-        l = x .same-length ∙ sym (y .same-length);
-        b = x .same-bundle ∙ sym (y .same-bundle);
+        source = x .of-group .of-source ∙ sym (y .of-group .of-source);
+        sequence = x .of-group .base ∙ sym (y .of-group .base);
+        timestamp = x .of-group .time ∙ sym (y .of-group .time);
+        l = x .of-group .same-length ∙ sym (y .of-group .same-length);
+        b = x .of-group .same-bundle ∙ sym (y .of-group .same-bundle);
       }
-
--- a session's holding is a part
-part-of : {v : Vocoder} {form : Form} (s : Session) (g : Sent v form) (ns : List ℕ) → HoldsExactly s g ns → Part (s .group) g ns
-part-of s g ns x =
-    record {
-      box = x .box;
-      of-source = x .of-source;
-      base = x .base;
-      time = x .time;
-      same-length = x .same-length;
-      same-bundle = x .same-bundle;
-      knows = x .knows;
-    }
 
 -- one of the boxes was offered packet n
 record OfferedTo (n : ℕ) (parts : Holding → List ℕ) (hs : List Holding) : Type 0 where
@@ -134,11 +120,11 @@ boxes-join v m form g w parts p one all x c =
     let h = j .all in
     let s = whole v m form g w parts p h (j .is) in
     let b = some-box w in
-    let y = part-of one g all x in
+    let y = x .part in
     let hd : SameHead h (one .group) =
     head-trans h (b .box) (one .group) (head-sym (b .box) h (s .one-group (b .box) (b .is-in))) (same-head v form g (b .box) (one .group) (parts (b .box)) all (p (b .box) (b .is-in)) y) in
-    j .is ∙ ap done (equal-knowledge v m h (one .group) (s .whole) (x .box) (head-group h (one .group) hd) (λ n k. same h (j .is) n k (offeredTo n parts (boxes w)) refl))
+    j .is ∙ ap done (equal-knowledge v m h (one .group) (s .whole) (y .box) (head-group h (one .group) hd) (λ n k. same h (j .is) n k (offeredTo n parts (boxes w)) refl))
   where
     same : (h : Holding) → outcome v w ≡ done h → (n : ℕ) → n < 8 → (t : Bool) → offeredTo n parts (boxes w) ≡ t → knownOf v h n ≡ knownOf v (one .group) n
-    same h q n k true e = knows-offered v m form g w parts p h q n k e ∙ sym (knows-true v form g (one .group) all n (x .knows n k) (c n k ∙ e))
-    same h q n k false e = knows-no-other v m form g w parts p h q n k e ∙ sym (knows-false v form g (one .group) all n (x .knows n k) (c n k ∙ e))
+    same h q n k true e = knows-offered v m form g w parts p h q n k e ∙ sym (knows-true v form g (one .group) all n (x .part .knows n k) (c n k ∙ e))
+    same h q n k false e = knows-no-other v m form g w parts p h q n k e ∙ sym (knows-false v form g (one .group) all n (x .part .knows n k) (c n k ∙ e))

@@ -28,7 +28,7 @@ use Rattle.knowledge.proofs.JoinLaws.{box-sound}
 use Rattle.knowledge.proofs.KnowledgeLaws.{known-held, heard-laid, heard-same}
 use Rattle.knowledge.proofs.PacketLaws.{packets-refl, listed-upTo}
 use Rattle.knowledge.proofs.PutLaws.{Keeps, with-head, put-box, put-knows, put-others, begun-keeps, begun-lost}
-use Rattle.session.specs.Session.{formRight, lastRight, groupRight, isOpen, accept, refuse, withGroup, sameBase, atDistance, inGroup, begins, noGroup, placed, arrival, judged, offered, pourMade}
+use Rattle.session.specs.Session.{formRight, lastRight, groupRight, isOpen, accept, refuse, withGroup, sameBase, atDistance, inGroup, begins, noGroup, placed, arrival, judged, offered, pourMade, copied}
 use Rattle.session.proofs.SessionLaws.{next-group, first-group}
 use Rattle.session.specs.declared.Session.{Session}
 use Rattle.session.specs.declared.Offered.{Offered}
@@ -38,7 +38,7 @@ use Rattle.frame.specs.Outputs.{octets}
 use Rattle.recording.specs.Entries.{entriesOf}
 use Rattle.claims.specs.Joinings.{HasRoom, EveryPlaceInTime}
 use Rattle.claims.specs.Sessions.{lostBefore, bodyOctets}
-use Rattle.claims.specs.Demand3.{Sent, offerOne, offerAll, AllAccepted, Ready, Within, among, knowledge, HoldsExactly, PouredPlaces, Demand3}
+use Rattle.claims.specs.Demand3.{Sent, offerOne, offerAll, AllAccepted, Ready, Within, among, knowledge, HoldsExactly, PouredPlaces, Demand3, OfGroup, Part, CopiedOut}
 use Rattle.claims.proofs.JoiningClaims.{every-place-in-time}
 use Rattle.claims.proofs.SessionClaims.{entries-length}
 
@@ -99,6 +99,20 @@ open-with v s h o x e =
     let r = both-true (lastRight s) (groupRight v s) (q .1) in
     simp (p .0, q .0, r .0, some-held v h x, x .some, eq-eqb (h .source) (s .source) e)
 
+-- the packets offered, named in another order
+exactly-as : {v : Vocoder} {form : Form} (s : Session) (g : Sent v form) (ds es : List ℕ) → ((i : ℕ) → among i ds ≡ among i es) → HoldsExactly s g ds → HoldsExactly s g es
+exactly-as s g ds es h x =
+    record {
+      still-open = x .still-open;
+      for-source = x .for-source;
+      in-form = x .in-form;
+      part = record {
+        box = x .part .box;
+        of-group = x .part .of-group;
+        knows = λ i k. x .part .knows i k ∙ ap (λ (t : Bool). cond t (heard (packetFrames (g .l) i (g .b) (g .frames))) lost) (h i);
+      };
+    }
+
 -- what one more offer does
 record OneMore {v : Vocoder} {form : Form} (s : Session) (g : Sent v form) (n : ℕ) (ds : List ℕ) : Type 0 where
   told : offerOne s g n .answer ≡ Accepted 0
@@ -130,93 +144,85 @@ module _ (v : Vocoder) (m : HasRoom v) (form : Form) (g : Sent v form) (n : ℕ)
   time-is : baseTimestamp stamped n ≡ g .timestamp
   time-is = time-back (g .timestamp) n (g .timestamp-fits) small
 
+  -- packet n put into a holding with the group's numbers that knows these packets
+  put-part : (h : Holding) → Keeps v h → OfGroup h g → (ds : List ℕ) → ((i : ℕ) → i < 8 → knownOf v h i ≡ knowledge g ds i) → Part (withPacket h n (laid ours)) g (n ∷ ds)
+  put-part h k o ds kn =
+      let hd = with-head h n (laid ours) in
+      record {
+        box = put-box v (m .short) (m .erasing) h k n in-h ours many-h ours-listed;
+        of-group = record {
+          of-source = hd .source ∙ o .of-source;
+          base = hd .sequence ∙ o .base;
+          time = hd .timestamp ∙ o .time;
+          same-length = hd .l ∙ o .same-length;
+          same-bundle = hd .b ∙ o .same-bundle;
+        };
+        knows = λ i l. go i l (eqb i n) refl;
+      }
+    where
+      in-h : n ≤ h .l
+      in-h = omega (arith, o .same-length)
+
+      many-h : length ours ≡ h .b
+      many-h = ours-many ∙ sym (o .same-bundle)
+
+      go : (i : ℕ) → i < 8 → (t : Bool) → eqb i n ≡ t → knownOf v (withPacket h n (laid ours)) i ≡ cond (t || among i ds) (heard (packetFrames (g .l) i (g .b) (g .frames))) lost
+      go i l true e =
+          let q : i ≡ n = eqb-true i n e in
+          subst (λ (j : ℕ). knownOf v (withPacket h n (laid ours)) j ≡ heard (packetFrames (g .l) j (g .b) (g .frames))) (sym q)
+          (put-knows v (m .short) (m .erasing) h k n in-h ours many-h ours-listed)
+      go i l false e = put-others v (m .short) (m .erasing) h k n in-h ours many-h ours-listed i (eqb-false i n e) ∙ kn i l
+
   -- what becomes of it: the same again, or put in
   module _ (s : Session) (ds : List ℕ) (x : HoldsExactly s g ds) where
     in-place : offerOne s g n ≡ sameBase s (arrival numbered stamped (g .l) n ours)
     unfolding placed inGroup atDistance arrival
     in-place =
         let r : readAs v (s .form) (g .payload n) ≡ packet (g .l) n (g .d n) ours = rw (x .in-form) (g .read n le) in
-        let z : minus 16 (baseSequence numbered n) (s .group .sequence) ≡ 0 = rw (base-is, x .base) (no-distance (g .sequence) (g .sequence-fits)) in
+        let z : minus 16 (baseSequence numbered n) (s .group .sequence) ≡ 0 = rw (base-is, x .part .of-group .base) (no-distance (g .sequence) (g .sequence-fits)) in
         offer-read v s (g .source) numbered stamped (g .l) n (g .d n) ours (g .payload n) (x .still-open) (x .for-source) r
-        ∙ simp (some-held v (s .group) (x .box), z)
+        ∙ simp (some-held v (s .group) (x .part .box), z)
 
     by-held : sameBase s (arrival numbered stamped (g .l) n ours) ≡ cond (heldAt (s .group) n) (cond (samePackets (packetOf (s .group) n) (laid ours)) (accept s 0) (refuse s PacketDiffers)) (accept (withGroup s (withPacket (s .group) n (laid ours))) 0)
     unfolding sameBase arrival
     by-held =
-        simp (eq-eqb (g .l) (s .group .l) (sym (x .same-length)), eq-eqb (length ours) (s .group .b) (ours-many ∙ sym (x .same-bundle)), eq-eqb (baseTimestamp stamped n) (s .group .timestamp) (time-is ∙ sym (x .time)))
+        simp (eq-eqb (g .l) (s .group .l) (sym (x .part .of-group .same-length)), eq-eqb (length ours) (s .group .b) (ours-many ∙ sym (x .part .of-group .same-bundle)), eq-eqb (baseTimestamp stamped n) (s .group .timestamp) (time-is ∙ sym (x .part .of-group .time)))
 
     -- held already
     again : among n ds ≡ true → offerOne s g n ≡ accept s 0
     unfolding knownOf
     again e =
-        let k : knownOf v (s .group) n ≡ heard ours = x .knows n small ∙ rw e in
+        let k : knownOf v (s .group) n ≡ heard ours = x .part .knows n small ∙ rw e in
         let t : heldAt (s .group) n ≡ true = known-held v (s .group) n ours k in
         let f : framesHeard v (s .group) n ≡ ours = heard-same (rw t at k) in
         let q : samePackets (packetOf (s .group) n) (laid ours) ≡ true =
-        rw (heard-laid v (m .short) (m .erasing) (s .group) (x .box) n small t ∙ ap laid f) (packets-refl (laid ours)) in
+        rw (heard-laid v (m .short) (m .erasing) (s .group) (x .part .box) n small t ∙ ap laid f) (packets-refl (laid ours)) in
         in-place ∙ by-held ∙ rw (t, q)
 
     -- not held yet
     added : among n ds ≡ false → offerOne s g n ≡ accept (withGroup s (withPacket (s .group) n (laid ours))) 0
     added e =
-        let k : knownOf v (s .group) n ≡ lost = x .knows n small ∙ rw e in
+        let k : knownOf v (s .group) n ≡ lost = x .part .knows n small ∙ rw e in
         in-place ∙ by-held ∙ rw (known-lost v (s .group) n k)
 
     -- ---- the session after it
-    keeps : Keeps v (s .group)
-    keeps = record { shaped = x .box .shaped; rule = holds-sound v (s .group) (x .box .some) .0 }
-
-    in-group : n ≤ s .group .l
-    in-group = omega (arith, x .same-length)
-
-    many-in : length ours ≡ s .group .b
-    many-in = ours-many ∙ sym (x .same-bundle)
-
-    abbrev more : Holding
-    more = withPacket (s .group) n (laid ours)
-
-    after-put : HoldsExactly (withGroup s more) g (n ∷ ds)
+    after-put : HoldsExactly (withGroup s (withPacket (s .group) n (laid ours))) g (n ∷ ds)
     unfolding withGroup
     after-put =
-        let hd = with-head (s .group) n (laid ours) in
-        let b = put-box v (m .short) (m .erasing) (s .group) keeps n in-group ours many-in ours-listed in
+        let h = s .group in
+        let q = put-part h (record { shaped = x .part .box .shaped; rule = holds-sound v h (x .part .box .some) .0 }) (x .part .of-group) ds (x .part .knows) in
         record {
-          still-open = open-with v s more (x .still-open) b (hd .source ∙ x .of-source ∙ sym (x .for-source));
+          still-open = open-with v s (withPacket h n (laid ours)) (x .still-open) (q .box) (q .of-group .of-source ∙ sym (x .for-source));
           for-source = x .for-source;
           in-form = x .in-form;
-          box = b;
-          of-source = hd .source ∙ x .of-source;
-          base = hd .sequence ∙ x .base;
-          time = hd .timestamp ∙ x .time;
-          same-length = hd .l ∙ x .same-length;
-          same-bundle = hd .b ∙ x .same-bundle;
-          knows = λ i k. go i k (eqb i n) refl;
+          part = q;
         }
-      where
-        go : (i : ℕ) → i < 8 → (t : Bool) → eqb i n ≡ t → knownOf v more i ≡ cond (t || among i ds) (heard (packetFrames (g .l) i (g .b) (g .frames))) lost
-        go i k true e =
-            let q : i ≡ n = eqb-true i n e in
-            subst (λ (j : ℕ). knownOf v more j ≡ heard (packetFrames (g .l) j (g .b) (g .frames))) (sym q)
-            (put-knows v (m .short) (m .erasing) (s .group) keeps n in-group ours many-in ours-listed)
-        go i k false e = put-others v (m .short) (m .erasing) (s .group) keeps n in-group ours many-in ours-listed i (eqb-false i n e) ∙ x .knows i k
 
     after-again : among n ds ≡ true → HoldsExactly s g (n ∷ ds)
-    after-again e =
-        record {
-          still-open = x .still-open;
-          for-source = x .for-source;
-          in-form = x .in-form;
-          box = x .box;
-          of-source = x .of-source;
-          base = x .base;
-          time = x .time;
-          same-length = x .same-length;
-          same-bundle = x .same-bundle;
-          knows = λ i k. x .knows i k ∙ go i (eqb i n) refl;
-        }
+    after-again e = exactly-as s g ds (n ∷ ds) (λ i. go i (eqb i n) refl) x
       where
-        go : (i : ℕ) (t : Bool) → eqb i n ≡ t → knowledge g ds i ≡ cond (t || among i ds) (heard (packetFrames (g .l) i (g .b) (g .frames))) lost
-        go i true q = let z : among i ds ≡ true = ap (λ (j : ℕ). among j ds) (eqb-true i n q) ∙ e in rw z
+        go : (i : ℕ) (t : Bool) → eqb i n ≡ t → among i ds ≡ t || among i ds
+        go i true q = ap (λ (j : ℕ). among j ds) (eqb-true i n q) ∙ e
         go i false q = refl
 
     -- one more offer
@@ -303,46 +309,25 @@ module _ (v : Vocoder) (m : HasRoom v) (form : Form) (g : Sent v form) (n : ℕ)
       go true p = after-one p ∙ ap (begins s came) (sym (count true p))
       go false p = sym (first-group s came p (begins s came 0) refl) ∙ ap (begins s came) (sym (count false p))
 
-  keeps-none : Keeps v none
-  keeps-none = begun-keeps (g .source) (g .sequence) (g .timestamp) (g .l) (g .b) v (g .low) (g .some) (g .few)
-
-  le-none : n ≤ none .l
-  unfolding begun
-  le-none = le
-
-  many-none : length mine ≡ none .b
-  unfolding begun
-  many-none = ours-many v m form g n le
-
-  first-box : Box v first
-  first-box = put-box v (m .short) (m .erasing) none keeps-none n le-none mine many-none (ours-listed v m form g n le)
-
   none-lost : (i : ℕ) → i < 8 → knownOf v none i ≡ lost
   unfolding knownOf
   none-lost i k = rw (begun-lost (g .source) (g .sequence) (g .timestamp) (g .l) (g .b) i k)
 
+  none-of : OfGroup none g
+  unfolding begun
+  none-of = record { of-source = refl; base = refl; time = refl; same-length = refl; same-bundle = refl }
+
   first-exactly : HoldsExactly (withGroup s first) g (n ∷ [])
-  unfolding withGroup withPacket begun
+  unfolding withGroup
   first-exactly =
+      let k = begun-keeps (g .source) (g .sequence) (g .timestamp) (g .l) (g .b) v (g .low) (g .some) (g .few) in
+      let q = put-part v m form g n le none k none-of [] none-lost in
       record {
-        still-open = open-with v s first (y .opened) first-box (sym (y .for-source));
+        still-open = open-with v s first (y .opened) (q .box) (q .of-group .of-source ∙ sym (y .for-source));
         for-source = y .for-source;
         in-form = y .in-form;
-        box = first-box;
-        of-source = refl;
-        base = refl;
-        time = refl;
-        same-length = refl;
-        same-bundle = refl;
-        knows = λ i k. go i k (eqb i n) refl;
+        part = q;
       }
-    where
-      go : (i : ℕ) → i < 8 → (t : Bool) → eqb i n ≡ t → knownOf v first i ≡ cond (t || false) (heard (packetFrames (g .l) i (g .b) (g .frames))) lost
-      go i k true e =
-          let q : i ≡ n = eqb-true i n e in
-          subst (λ (j : ℕ). knownOf v first j ≡ heard (packetFrames (g .l) j (g .b) (g .frames))) (sym q)
-          (put-knows v (m .short) (m .erasing) none keeps-none n le-none mine many-none (ours-listed v m form g n le))
-      go i k false e = put-others v (m .short) (m .erasing) none keeps-none n le-none mine many-none (ours-listed v m form g n le) i (eqb-false i n e) ∙ none-lost i k
 
   begins-group : First s g n
   unfolding accept
@@ -367,41 +352,26 @@ spread-among : (i : ℕ) (ds ns : List ℕ) → among i (spread ds ns) ≡ among
 spread-among i ds [] = refl
 spread-among i ds (n ∷ ns) = spread-among i (n ∷ ds) ns ∙ or-assoc (among i ns) (eqb i n) (among i ds)
 
-exactly-as : {v : Vocoder} {form : Form} (s : Session) (g : Sent v form) (ds es : List ℕ) → ((i : ℕ) → among i ds ≡ among i es) → HoldsExactly s g ds → HoldsExactly s g es
-exactly-as s g ds es h x =
-    record {
-      still-open = x .still-open;
-      for-source = x .for-source;
-      in-form = x .in-form;
-      box = x .box;
-      of-source = x .of-source;
-      base = x .base;
-      time = x .time;
-      same-length = x .same-length;
-      same-bundle = x .same-bundle;
-      knows = λ i k. x .knows i k ∙ ap (λ (t : Bool). cond t (heard (packetFrames (g .l) i (g .b) (g .frames))) lost) (h i);
-    }
-
 pub places-of : (v : Vocoder) → HasRoom v → (form : Form) (s : Session) (g : Sent v form) (ns : List ℕ) → HoldsExactly s g ns → PouredPlaces s g ns
 unfolding EveryPlaceInTime
 places-of v m form s g ns x =
-    let p = every-place-in-time v m (s .group) (x .box) in
+    let p = every-place-in-time v m (s .group) (x .part .box) in
     record {
-      count = p .count ∙ ap₂ (λ (l b : ℕ). (l + 1) * b) (x .same-length) (x .same-bundle);
+      count = p .count ∙ ap₂ (λ (l b : ℕ). (l + 1) * b) (x .part .of-group .same-length) (x .part .of-group .same-bundle);
       original = λ n k i j e. at-place n k i j ∙ ap (λ (w : Known). frameKnown w k) (offered-known n i e) ∙ packet-at (g .l) n (g .b) (g .frames) k j;
       erased = λ n k i j e. at-place n k i j ∙ ap (λ (w : Known). frameKnown w k) (missed-lost n i e);
     }
   where
     offered-known : (n : ℕ) → n ≤ g .l → among n ns ≡ true → knownOf v (s .group) n ≡ heard (packetFrames (g .l) n (g .b) (g .frames))
-    offered-known n i e = x .knows n (omega (arith, g .low)) ∙ ap (λ (t : Bool). cond t (heard (packetFrames (g .l) n (g .b) (g .frames))) lost) e
+    offered-known n i e = x .part .knows n (omega (arith, g .low)) ∙ ap (λ (t : Bool). cond t (heard (packetFrames (g .l) n (g .b) (g .frames))) lost) e
 
     missed-lost : (n : ℕ) → n ≤ g .l → among n ns ≡ false → knownOf v (s .group) n ≡ lost
-    missed-lost n i e = x .knows n (omega (arith, g .low)) ∙ ap (λ (t : Bool). cond t (heard (packetFrames (g .l) n (g .b) (g .frames))) lost) e
+    missed-lost n i e = x .part .knows n (omega (arith, g .low)) ∙ ap (λ (t : Bool). cond t (heard (packetFrames (g .l) n (g .b) (g .frames))) lost) e
 
     at-place : (n k : ℕ) → n ≤ g .l → k < g .b → frameAt (inTime v (s .group)) (placeOf (g .l) n k) ≡ frameKnown (knownOf v (s .group) n) k
     at-place n k i j =
-        ap (λ (l : ℕ). frameAt (inTime v (s .group)) (placeOf l n k)) (sym (x .same-length))
-        ∙ every-place-in-time v m (s .group) (x .box) .places n k (omega (arith, x .same-length)) (omega (arith, x .same-bundle))
+        ap (λ (l : ℕ). frameAt (inTime v (s .group)) (placeOf l n k)) (sym (x .part .of-group .same-length))
+        ∙ every-place-in-time v m (s .group) (x .part .box) .places n k (omega (arith, x .part .of-group .same-length)) (omega (arith, x .part .of-group .same-bundle))
 
 -- an open session pours its group's places
 pours : (v : Vocoder) → HasRoom v → (s : Session) → isOpen v s ≡ true → Box v (s .group) → pourMade v s ≡ octets (entriesOf (inTime v (s .group)))
@@ -420,6 +390,10 @@ demand-3 v m form g s y n ns w =
       accepted = (f .told, r .told);
       exactly = x;
       places = p;
-      poured = pours v m t (x .still-open) (x .box);
+      poured = pours v m t (x .still-open) (x .part .box);
       octet-count = entries-length (inTime v (t .group)) ∙ ap (λ (i : ℕ). i + bodyOctets (inTime v (t .group))) (p .count);
     }
+
+pub copied-out : CopiedOut
+unfolding CopiedOut copied
+copied-out v form s g ns x = simp (x .still-open, some-held v (s .group) (x .part .box))

@@ -54,15 +54,15 @@ pours-erasures v form s g n ns x i a h =
 pub stores-nothing : StoresNothing
 unfolding StoresNothing
 stores-nothing v form s g n ns y x e =
-    let z : true ≡ false = sym (y .vacant) ∙ ap isNothing (sym e) ∙ some-held v (offerAll s g (n ∷ ns) .group) (x .exactly .box) in
+    let z : true ≡ false = sym (y .vacant) ∙ ap isNothing (sym e) ∙ some-held v (offerAll s g (n ∷ ns) .group) (x .exactly .part .box) in
     apart (cc)
 
 pub nods-at-later : NodsAtLater
 unfolding NodsAtLater
 nods-at-later v form s g n k a b i d e =
     let fs = packetFrames (g .l) k (g .b) (g .frames) in
-    let p : knownOf v (offerAll s g (n ∷ k ∷ []) .group) k ≡ heard fs = b .exactly .knows k (omega (arith, g .low)) ∙ rw (ne-eqb k n d, eq-eqb k k refl) in
-    let q : knownOf v (offerAll s g (n ∷ []) .group) k ≡ lost = a .exactly .knows k (omega (arith, g .low)) ∙ rw (ne-eqb k n d) in
+    let p : knownOf v (offerAll s g (n ∷ k ∷ []) .group) k ≡ heard fs = b .exactly .part .knows k (omega (arith, g .low)) ∙ rw (ne-eqb k n d, eq-eqb k k refl) in
+    let q : knownOf v (offerAll s g (n ∷ []) .group) k ≡ lost = a .exactly .part .knows k (omega (arith, g .low)) ∙ rw (ne-eqb k n d) in
     let z : heard fs ≡ lost = sym p ∙ ap (λ (h : Holding). knownOf v h k) e ∙ q in
     apart (cc)
 

@@ -93,8 +93,8 @@ module _ (v : Vocoder) (m : HasRoom v) (form : Form) (g : Sent v form) (s : Sess
   in-time : (n k : ℕ) → n < s .group .l + 1 → k < s .group .b → isErasure (frameIn v (s .group .marks) (s .group .room) n k) ≡ eqb n x
   in-time n k i j =
       ap isErasure (sym (rows-at v (s .group .marks) (s .group .room) (s .group .l + 1) (s .group .b) n k i j))
-      ∙ ap (λ (l : ℕ). isErasure (frameAt (inTime v (s .group)) (placeOf l n k))) (h .same-length)
-      ∙ at-place n k (omega (arith, h .same-length)) (omega (arith, h .same-bundle))
+      ∙ ap (λ (l : ℕ). isErasure (frameAt (inTime v (s .group)) (placeOf l n k))) (h .part .of-group .same-length)
+      ∙ at-place n k (omega (arith, h .part .of-group .same-length)) (omega (arith, h .part .of-group .same-bundle))
 
   -- the place t is an erasure only if its packet is the missing one
   of-packet : (t : ℕ) → t < (g .l + 1) * g .b → isErasure (frameAt (inTime v (s .group)) t) ≡ true → t % (g .l + 1) ≡ x
@@ -108,7 +108,7 @@ module _ (v : Vocoder) (m : HasRoom v) (form : Form) (g : Sent v form) (s : Sess
   spread : Spread s g
   spread =
       record {
-        exactly-b = row-erasures v (s .group .marks) (s .group .room) x (s .group .l + 1) (s .group .b) (omega (arith, h .same-length, o .in-group)) in-time ∙ h .same-bundle;
+        exactly-b = row-erasures v (s .group .marks) (s .group .room) x (s .group .l + 1) (s .group .b) (omega (arith, h .part .of-group .same-length, o .in-group)) in-time ∙ h .part .of-group .same-bundle;
         no-neighbours = λ t i a b. rests-differ t (g .l + 1) x (omega (arith, o .two-or-more)) (of-packet t (omega arith) a) (of-packet (t + 1) i b);
       }
 

@@ -24,7 +24,8 @@ use Rattle.holding.specs.Group.{isNothing}
 use Rattle.holding.specs.declared.Holding.{Holding}
 use Rattle.pouring.specs.Pouring.{inTime}
 use Rattle.knowledge.specs.Knowledge.{Box, Known, heard, lost, knownOf, Among}
-use Rattle.session.specs.Session.{isOpen, offered, pourMade}
+use Rattle.session.specs.Session.{isOpen, offered, pourMade, copied}
+use Rattle.holding.specs.declared.Answer.the-variants.{Done}
 use Rattle.recording.specs.Entries.{entriesOf}
 use Rattle.session.specs.declared.Session.{Session}
 use Rattle.session.specs.declared.Offered.{Offered}
@@ -88,18 +89,26 @@ among n (m ∷ ms) = eqb n m || among n ms
 abbrev pub knowledge : {v : Vocoder} {form : Form} → Sent v form → List ℕ → ℕ → Known
 knowledge g ns n = cond (among n ns) (heard (packetFrames (g .l) n (g .b) (g .frames))) lost
 
--- the session's holding is the one that names exactly the packets offered
+-- a holding with the group's numbers
+pub record OfGroup {v : Vocoder} {form : Form} (h : Holding) (g : Sent v form) : Type 0 where
+  pub of-source : h .source ≡ g .source
+  pub base : h .sequence ≡ g .sequence
+  pub time : h .timestamp ≡ g .timestamp
+  pub same-length : h .l ≡ g .l
+  pub same-bundle : h .b ≡ g .b
+
+-- a holding of the group that names exactly these packets
+pub record Part {v : Vocoder} {form : Form} (h : Holding) (g : Sent v form) (ns : List ℕ) : Type 0 where
+  pub box : Box v h
+  pub of-group : OfGroup h g
+  pub knows : (n : ℕ) → n < 8 → knownOf v h n ≡ knowledge g ns n
+
+-- the session is open as it was, and its holding is the one that names exactly the packets offered
 pub record HoldsExactly {v : Vocoder} {form : Form} (s : Session) (g : Sent v form) (ns : List ℕ) : Type 0 where
   pub still-open : isOpen v s ≡ true
   pub for-source : s .source ≡ g .source
   pub in-form : s .form ≡ form
-  pub box : Box v (s .group)
-  pub of-source : s .group .source ≡ g .source
-  pub base : s .group .sequence ≡ g .sequence
-  pub time : s .group .timestamp ≡ g .timestamp
-  pub same-length : s .group .l ≡ g .l
-  pub same-bundle : s .group .b ≡ g .b
-  pub knows : (n : ℕ) → n < 8 → knownOf v (s .group) n ≡ knowledge g ns n
+  pub part : Part (s .group) g ns
 
 -- each time place has the original frame if its packet was offered, and an erasure if not
 pub record PouredPlaces {v : Vocoder} {form : Form} (s : Session) (g : Sent v form) (ns : List ℕ) : Type 0 where
@@ -152,15 +161,11 @@ HeaderFreeWriterSends =
     (source sequence timestamp : ℕ) → sequence < 65536 → timestamp < 4294967296 →
     SentSo v HeaderFree source sequence timestamp 0 1 (groupIn v es) (λ n. w)
 
--- a holding of the group that names exactly these packets, as a box has it that was offered them
-pub record Part {v : Vocoder} {form : Form} (h : Holding) (g : Sent v form) (ns : List ℕ) : Type 0 where
-  pub box : Box v h
-  pub of-source : h .source ≡ g .source
-  pub base : h .sequence ≡ g .sequence
-  pub time : h .timestamp ≡ g .timestamp
-  pub same-length : h .l ≡ g .l
-  pub same-bundle : h .b ≡ g .b
-  pub knows : (n : ℕ) → n < 8 → knownOf v h n ≡ knowledge g ns n
+-- such a session's holding can be copied out
+unfoldable pub CopiedOut : Type 0
+CopiedOut =
+    (v : Vocoder) (form : Form) (s : Session) (g : Sent v form) (ns : List ℕ) → HoldsExactly s g ns →
+    copied v s ≡ record { answer = Done; holding = s .group }
 
 -- some box was offered packet n
 abbrev pub offeredTo : ℕ → (Holding → List ℕ) → List Holding → Bool

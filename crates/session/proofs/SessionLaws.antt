@@ -4,8 +4,11 @@ use mathlib.Core.Bool.{true, false}
 use mathlib.Core.Path.{_≡_, refl, sym, ap, _∙_}
 use mathlib.Core.List.{List}
 use native.Mathlib.Omega.{arith}
+use native.Mathlib.Nat.{mul-le-mul}
 use lib.ListN.{length}
 use lib.Dec.{T, eqb, leb}
+use mir.Val.{Fits}
+use mir.Syntax.{w64}
 use borrow.Author.Tests.{eq-eqb, ne-eqb, le-leb, lt-leb, lt-ltb, le-ltb}
 use Rattle.octets.proofs.Logic.{apart}
 use Rattle.frame.specs.Table.{Vocoder, single}
@@ -177,6 +180,10 @@ module _ (s : Session) (a : Arrival) (p : s .poured ≡ true) (e : ℕ) (q : e �
   pub next-group : e < 32768 → e ≤ 100 → (o : Offered) → o ≡ begins s a (e * s .«last_b») → o ≡ noGroup s a
   unfolding afterLast
   next-group h k o r = alone o (r ∙ simp (lt-leb 32768 e h, le-ltb 100 e k))
+
+-- the lost frames fit
+pub lost-fits : (e b : ℕ) → e ≤ 100 → b ≤ 255 → Fits w64 (e * b)
+lost-fits e b h k = omega (arith, mul-le-mul {n₁ = e} {m₁ = b} {n₂ = 100} {m₂ = 255} h k)
 
 pub first-group : (s : Session) (a : Arrival) → s .poured ≡ false → (o : Offered) → o ≡ begins s a 0 → o ≡ noGroup s a
 unfolding noGroup

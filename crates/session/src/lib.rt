@@ -233,7 +233,9 @@ fn place_in_group(session: Session, arrival: Arrival) -> Offered
     ensures { λ r. ⌜ r ≡ inGroup session arrival ⌝ }
 {
     let group = session.group;
-    let distance = std::num::wrapping_sub_u16(arrival.sequence, group.sequence);
+    let base = arrival.sequence;
+    let held = group.sequence;
+    let distance = std::num::wrapping_sub_u16(base, held);
     if distance == 0 {
         return put_in(session, arrival);
     }

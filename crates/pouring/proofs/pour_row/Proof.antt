@@ -4,7 +4,7 @@ use mathlib.Core.Path.{_≡_, refl, sym, _∙_}
 use native.Mathlib.Nat.{add-zero}
 use native.Mathlib.Omega.{arith}
 use lib.ListN.{length-set}
-use lib.ListN.{length, getD}
+use lib.ListN.{length}
 use denote.Ref.{now}
 use borrow.Author.Needs.{needs}
 use Rattle.recording.specs.Entries.{entriesOf}
@@ -73,9 +73,8 @@ part-copy-end c = let z : c .before .body-size .result ≤ 22 = rw (c .before .b
 copy-requires : tie.Need-copy-requires Inv-loop μ-loop
 copy-requires c κs =
     let g = row-size-grows evrc (now (c .before .before .before .before .before .before .before .before .before .args .marks)) (c .before .before .before .before .before .before .before .before .before .args .k) (c .before .before .before .before .before .loop .n) (c .before .before .before .before .before .before .before .before .before .args .m) (omega arith) in
-    let s = length-set (c .before .before .before .before .before .loop .out) (c .before .before .before .before .before .loop .next) (getD (now (c .before .before .before .before .before .before .before .before .before .args .marks)) (10 * c .before .before .before .before .before .loop .n + c .before .before .before .before .before .before .before .before .before .args .k) 0) in
     let z = length-piece (now (c .before .before .before .before .before .before .before .before .before .args .room)) (220 * c .before .before .before .before .before .loop .n + 22 * c .before .before .before .before .before .before .before .before .before .args .k) (c .before .before .body-size .result) in
-    omega (arith, c .before .before .before .before .before .before .before .before .before .pre .4, c .before .before .before .before .before .loop .inv .1, c .before .before .before .before .before .loop .inv .2, c .before .before .body-size .ensures)
+    simp length-set (omega (arith, c .before .before .before .before .before .before .before .before .before .pre .4, c .before .before .before .before .before .loop .inv .1, c .before .before .before .before .before .loop .inv .2, c .before .before .body-size .ensures))
 
 add-next : tie.Need-add-next Inv-loop μ-loop
 add-next c =
@@ -96,10 +95,9 @@ loop-less c = omega arith
 loop-again : tie.Need-loop-again Inv-loop μ-loop
 loop-again c =
     let g = row-size-grows evrc (now (c .before .before .before .before .before .before .before .before .before .before .before .before .args .marks)) (c .before .before .before .before .before .before .before .before .before .before .before .before .args .k) (c .before .before .before .before .before .before .before .before .loop .n) (c .before .before .before .before .before .before .before .before .before .before .before .before .args .m) (omega arith) in
-    let s = length-set (c .before .before .before .before .before .before .before .before .loop .out) (c .before .before .before .before .before .before .before .before .loop .next) (getD (now (c .before .before .before .before .before .before .before .before .before .before .before .before .args .marks)) (10 * c .before .before .before .before .before .before .before .before .loop .n + c .before .before .before .before .before .before .before .before .before .before .before .before .args .k) 0) in
     let e = row-size-more evrc (now (c .before .before .before .before .before .before .before .before .before .before .before .before .args .marks)) (c .before .before .before .before .before .before .before .before .before .before .before .before .args .k) (c .before .before .before .before .before .before .before .before .loop .n) _ _ refl (c .before .before .before .before .before .body-size .ensures) in (
       omega arith,
-      c .before .before .copy .kept .0 ∙ s ∙ c .before .before .before .before .before .before .before .before .loop .inv .1,
+      c .before .before .copy .kept .0 ∙ simp length-set (c .before .before .before .before .before .before .before .before .loop .inv .1),
       omega (arith, c .before .before .before .before .before .before .before .before .loop .inv .2),
       row-more evrc tt _ _ (c .before .before .before .before .before .before .before .before .before .before .before .before .pre .1) (c .before .before .before .before .before .before .before .before .before .before .before .before .args .k) (c .before .before .before .before .before .before .before .before .loop .n) (omega (arith, c .before .before .before .before .before .before .before .before .before .before .before .before .pre .2)) (c .before .before .before .before .before .before .before .before .before .before .before .before .pre .3) _ _ _ _ _ _ (omega (arith, c .before .before .before .before .before .before .before .before .before .before .before .before .pre .4)) (omega (arith, c .before .before .before .before .before .before .before .before .before .before .before .before .pre .4, c .before .before .before .before .before .before .before .before .loop .inv .1, c .before .before .before .before .before .before .before .before .loop .inv .2)) (c .before .before .before .before .before .before .before .before .loop .inv .2) (c .before .before .before .before .before .before .before .before .loop .inv .3) (c .before .before .before .before .before .body-size .ensures) (c .before .before .copy .ensures),
     )

@@ -1,12 +1,9 @@
 -- `session::place_alone` meets its contract.
-use Prim.Native.Nat.{_≤_}
 use Prim.Native.Nat.{_+_}
 use mathlib.Core.Path.{_≡_, _∙_}
-use native.Mathlib.Nat.{mul-le-mul}
-use native.Mathlib.Omega.{arith}
 use borrow.Author.Needs.{needs}
 use Rattle.holding.specs.Bases.{minus}
-use Rattle.session.proofs.SessionLaws.{before-last, too-far, next-group, first-group}
+use Rattle.session.proofs.SessionLaws.{lost-fits, before-last, too-far, next-group, first-group}
 use Rattle.session.proofs.place_alone.Statement.{statement}
 use Rattle.session.proofs.place_alone.Tie as tie
 
@@ -45,7 +42,7 @@ cast-lost-2 : tie.Need-cast-lost-2
 cast-lost-2 c = search needs
 
 mul-lost : tie.Need-mul-lost
-mul-lost c = let b : c .before .before .before .before .before .before .before .args .session .«last_b» ≤ 255 = search needs in omega (arith, mul-le-mul {n₂ = 100} {m₂ = 255} (c .before .if3 .left) b)
+mul-lost c = lost-fits _ _ (c .before .if3 .left) (search needs)
 
 begin-group-requires : tie.Need-begin-group-requires
 begin-group-requires c κs = search needs

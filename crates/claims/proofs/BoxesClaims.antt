@@ -15,7 +15,8 @@ use Rattle.knowledge.specs.Knowledge.{heard, lost, framesHeard, knownOf, Among}
 use Rattle.knowledge.proofs.KnowledgeLaws.{heard-same}
 use Rattle.knowledge.proofs.JoinLaws.{Sum}
 use Rattle.claims.specs.Joinings.{HasRoom, Way, boxes, done, outcome, OneGroup, Differ, ElseTheyJoin, NothingLost, EqualKnowledge}
-use Rattle.claims.specs.Demand3.{Sent, among, knowledge, Part, offeredTo, BoxesJoin}
+use Rattle.claims.specs.Demand3.{Sent, among, knowledge, Part}
+use Rattle.claims.specs.Boxes.{offeredTo, BoxesJoin}
 use Rattle.claims.proofs.JoiningClaims.{some-box, done-sum, else-they-join, nothing-lost, equal-knowledge}
 use Rattle.claims.proofs.Demand3Claims.{known-lost}
 

@@ -38,7 +38,8 @@ use Rattle.frame.specs.Outputs.{octets}
 use Rattle.recording.specs.Entries.{entriesOf}
 use Rattle.claims.specs.Joinings.{HasRoom, EveryPlaceInTime}
 use Rattle.claims.specs.Sessions.{lostBefore, bodyOctets}
-use Rattle.claims.specs.Demand3.{Sent, offerOne, offerAll, AllAccepted, Ready, Within, among, knowledge, HoldsExactly, PouredPlaces, Demand3, OfGroup, Part, CopiedOut}
+use Rattle.claims.specs.Demand3.{Sent, offerOne, offerAll, AllAccepted, Ready, Within, among, knowledge, HoldsExactly, PouredPlaces, Demand3, OfGroup, Part}
+use Rattle.claims.specs.Boxes.{CopiedOut}
 use Rattle.claims.proofs.JoiningClaims.{every-place-in-time}
 use Rattle.claims.proofs.SessionClaims.{entries-length}
 

@@ -16,7 +16,8 @@ use Rattle.knowledge.specs.Knowledge.{heard, lost, knownOf}
 use Rattle.session.specs.declared.Session.{Session}
 use Rattle.session.specs.declared.Taken.the-variants.{Accepted, Refused}
 use Rattle.claims.specs.Sessions.{lostBefore, OctetCountByFormula}
-use Rattle.claims.specs.Demand3.{Sent, offerOne, offerAll, AllAccepted, among, Delivered, isErasure}
+use Rattle.claims.specs.Demand3.{Sent, offerOne, offerAll, AllAccepted, among, Delivered}
+use Rattle.claims.specs.Missing.{isErasure}
 use Rattle.claims.specs.Idle.{RefusesEverything, PoursErasures, StoresNothing, NodsAtLater, InventsLostFrames, InventsOctetCounts}
 use Rattle.claims.proofs.SessionClaims.{octet-count-by-formula}
 use Rattle.claims.proofs.Demand3Claims.{some-held}

@@ -17,7 +17,8 @@ use Rattle.pouring.specs.Pouring.{frameIn, row, rows, inTime}
 use Rattle.pouring.proofs.PourLaws.{rows-at}
 use Rattle.session.specs.declared.Session.{Session}
 use Rattle.claims.specs.Joinings.{HasRoom}
-use Rattle.claims.specs.Demand3.{Sent, among, HoldsExactly, PouredPlaces, isErasure, erasures, OneMissing, Spread, OneMissingPacket}
+use Rattle.claims.specs.Demand3.{Sent, among, HoldsExactly, PouredPlaces}
+use Rattle.claims.specs.Missing.{isErasure, erasures, OneMissing, Spread, OneMissingPacket}
 use Rattle.claims.proofs.Demand3Claims.{places-of}
 
 -- ---- counting

@@ -27,7 +27,8 @@ use Rattle.packet.specs.Packet.{packetFrames, groupIn}
 use Rattle.packet.specs.Writing.{headerFreeMade, oneBody, packetMade}
 use Rattle.packet.proofs.Packing.{length-packet}
 use Rattle.claims.specs.Packets.{HeaderFreeReadAfterWrite}
-use Rattle.claims.specs.Demand3.{Admits, WriterSends, HeaderFreeWriterSends, isErasure, sentOf, neverSent, WriterSendsNoErasure, EvrcNeverSendsErasures}
+use Rattle.claims.specs.Sending.{Admits, WriterSends, HeaderFreeWriterSends, sentOf, neverSent, WriterSendsNoErasure, EvrcNeverSendsErasures}
+use Rattle.claims.specs.Missing.{isErasure}
 use Rattle.claims.proofs.PacketTrips.{Fit, entries-fit, made-of, packed-back}
 use Rattle.claims.proofs.PacketBack.{header-free-read-after-write}
 

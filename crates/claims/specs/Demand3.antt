@@ -1,37 +1,29 @@
 -- Demand 3: a group that our writer made, any part of it offered in any order, repeats allowed, to a session that is ready for it.
 -- Over any frame table that a holding has room for, and any packet format for which reading after writing holds: that law is the field
 -- `read` of `Sent`, and all that is asked of a format.
-use Prim.Native.Nat.{ℕ, suc, _+_, _*_, _%_, _≤_, _<_}
+use Prim.Native.Nat.{ℕ, _+_, _*_, _%_, _≤_, _<_}
 use mathlib.Core.Path.{_≡_}
 use mathlib.Core.List.{List, [], _∷_}
 use mathlib.Core.Bool.{Bool, true, false, not, cond, _||_}
-use lib.Dec.{T, eqb, leb}
+use lib.Dec.{eqb, leb}
 use lib.ListN.{length}
-use Rattle.frame.specs.Table.{Vocoder, Frame, evrc, rowOf, AllListed, erasure}
+use Rattle.frame.specs.Table.{Vocoder, Frame, AllListed, erasure}
 use Rattle.frame.specs.Places.{frameAt}
 use Rattle.frame.specs.declared.Form.{Form}
 use Rattle.payload.specs.Payload.{packet, readAs}
-use Rattle.packet.specs.Packet.{placeOf, packetFrames, groupIn}
-use Rattle.packet.specs.Writing.{packetMade, headerFreeMade}
-use Rattle.frame.specs.Agreed.{inRange}
-use Rattle.frame.specs.declared.Limits.{Limits}
-use Rattle.frame.specs.declared.Lookup.{Lookup}
-use Rattle.frame.specs.declared.Lookup.the-variants.{Found, Missing}
-use Rattle.frame.specs.declared.Form.the-variants.{HeaderFree, Interleaved}
+use Rattle.packet.specs.Packet.{placeOf, packetFrames}
 use Rattle.frame.specs.Outputs.{octets}
 use Rattle.holding.specs.Bases.{minus}
 use Rattle.holding.specs.Group.{isNothing}
 use Rattle.holding.specs.declared.Holding.{Holding}
 use Rattle.pouring.specs.Pouring.{inTime}
-use Rattle.knowledge.specs.Knowledge.{Box, Known, heard, lost, knownOf, Among}
-use Rattle.session.specs.Session.{isOpen, offered, pourMade, copied}
-use Rattle.holding.specs.declared.Answer.the-variants.{Done}
+use Rattle.knowledge.specs.Knowledge.{Box, Known, heard, lost, knownOf}
+use Rattle.session.specs.Session.{isOpen, offered, pourMade}
 use Rattle.recording.specs.Entries.{entriesOf}
 use Rattle.session.specs.declared.Session.{Session}
 use Rattle.session.specs.declared.Offered.{Offered}
 use Rattle.session.specs.declared.Taken.the-variants.{Accepted}
-use Rattle.claims.specs.Packets.{tells}
-use Rattle.claims.specs.Joinings.{HasRoom, Way, boxes, done, outcome}
+use Rattle.claims.specs.Joinings.{HasRoom}
 use Rattle.claims.specs.Sessions.{lostBefore, bodyOctets}
 
 -- a group as it was written: its numbers, its frames in time order, and the payload of each packet, which is read as that packet's frames
@@ -128,98 +120,3 @@ unfoldable pub Demand3 : Type 0
 Demand3 =
     (v : Vocoder) → HasRoom v → (form : Form) (g : Sent v form) (s : Session) → Ready s g → (n : ℕ) (ns : List ℕ) → Within (g .l) (n ∷ ns) →
     Delivered s g n ns
-
--- a group that was sent with these numbers, frames and payloads
-pub record SentSo (v : Vocoder) (form : Form) (source sequence timestamp l b : ℕ) (frames : List Frame) (payload : ℕ → List ℕ) : Type 0 where
-  pub group : Sent v form
-  pub its-source : group .source ≡ source
-  pub its-sequence : group .sequence ≡ sequence
-  pub its-timestamp : group .timestamp ≡ timestamp
-  pub its-l : group .l ≡ l
-  pub its-b : group .b ≡ b
-  pub its-frames : group .frames ≡ frames
-  pub its-payload : (n : ℕ) → group .payload n ≡ payload n
-
--- "limits that admit it"
-pub record Admits (m : Limits) (l b : ℕ) : Type 0 where
-  pub in-range : inRange m ≡ true
-  pub long-enough : l ≤ m .«max_l»
-  pub wide-enough : b ≤ m .«max_b»
-
--- our writer sends such a group, whatever limits it was written under, to a session of the form under limits that admit it: "any L, B, any sendable frames, any D for each packet", "base numbers anywhere, wrap-around included"
-unfoldable pub WriterSends : Type 0
-WriterSends =
-    (v : Vocoder) (m : Limits) (l b : ℕ) (es : List ℕ) (d : ℕ → ℕ) (payload : ℕ → List ℕ) →
-    ((n : ℕ) → n ≤ l → packetMade v (Interleaved m) l n b (d n) es ≡ octets (payload n)) →
-    (source sequence timestamp : ℕ) → sequence < 65536 → timestamp < 4294967296 → (limits : Limits) → Admits limits l b →
-    SentSo v (Interleaved limits) source sequence timestamp l b (groupIn v es) payload
-
--- and so does the header-free writer: a group of one packet of one frame
-unfoldable pub HeaderFreeWriterSends : Type 0
-HeaderFreeWriterSends =
-    (v : Vocoder) → T (tells v v) → (es w : List ℕ) → headerFreeMade v HeaderFree es ≡ octets w →
-    (source sequence timestamp : ℕ) → sequence < 65536 → timestamp < 4294967296 →
-    SentSo v HeaderFree source sequence timestamp 0 1 (groupIn v es) (λ n. w)
-
--- such a session's holding can be copied out
-unfoldable pub CopiedOut : Type 0
-CopiedOut =
-    (v : Vocoder) (form : Form) (s : Session) (g : Sent v form) (ns : List ℕ) → HoldsExactly s g ns →
-    copied v s ≡ record { answer = Done; holding = s .group }
-
--- some box was offered packet n
-abbrev pub offeredTo : ℕ → (Holding → List ℕ) → List Holding → Bool
-offeredTo n parts [] = false
-offeredTo n parts (h ∷ hs) = among n (parts h) || offeredTo n parts hs
-
--- boxes that each were offered a part of the group, joined in any order and grouping, give what one box would hold that was offered all of it
-unfoldable pub BoxesJoin : Type 0
-BoxesJoin =
-    (v : Vocoder) → HasRoom v → (form : Form) (g : Sent v form) (w : Way) (parts : Holding → List ℕ) →
-    ((h : Holding) → Among h (boxes w) → Part h g (parts h)) →
-    (one : Session) (all : List ℕ) → HoldsExactly one g all → ((n : ℕ) → n < 8 → among n all ≡ offeredTo n parts (boxes w)) →
-    outcome v w ≡ done (one .group)
-
-abbrev pub isErasure : Frame → Bool
-isErasure f = eqb (f .type) erasure
-
--- how many of these frames are erasures
-abbrev pub erasures : List Frame → ℕ
-erasures [] = 0
-erasures (f ∷ fs) = cond (isErasure f) (suc (erasures fs)) (erasures fs)
-
--- "exactly one packet of two or more is missing": of a group without erasures of its own, all packets but x were offered
-pub record OneMissing {v : Vocoder} {form : Form} (g : Sent v form) (ns : List ℕ) (x : ℕ) : Type 0 where
-  pub two-or-more : 1 ≤ g .l
-  pub in-group : x ≤ g .l
-  pub missing : among x ns ≡ false
-  pub others : (n : ℕ) → n ≤ g .l → (n ≡ x → ⊥) → among n ns ≡ true
-  pub no-erasure : (i : ℕ) → i < length (g .frames) → isErasure (frameAt (g .frames) i) ≡ false
-
--- "exactly B erasures stand there and no two are neighbours"
-pub record Spread {v : Vocoder} {form : Form} (s : Session) (g : Sent v form) : Type 0 where
-  pub exactly-b : erasures (inTime v (s .group)) ≡ g .b
-  pub no-neighbours : (t : ℕ) → t + 1 < (g .l + 1) * g .b → isErasure (frameAt (inTime v (s .group)) t) ≡ true →
-      isErasure (frameAt (inTime v (s .group)) (t + 1)) ≡ true → ⊥
-
-unfoldable pub OneMissingPacket : Type 0
-OneMissingPacket =
-    (v : Vocoder) → HasRoom v → (form : Form) (g : Sent v form) (s : Session) (ns : List ℕ) → HoldsExactly s g ns → (x : ℕ) → OneMissing g ns x →
-    Spread s g
-
--- an erasure is not to be sent
-abbrev pub sentOf : Lookup → Bool
-sentOf (Found r) = r .sent
-sentOf Missing = false
-
-abbrev pub neverSent : Vocoder → Bool
-neverSent v = not (sentOf (rowOf v erasure))
-
--- a group that our writer sends has no erasure of its own
-unfoldable pub WriterSendsNoErasure : Type 0
-WriterSendsNoErasure =
-    (v : Vocoder) → T (neverSent v) → (m : Limits) (l n b d : ℕ) (es w : List ℕ) → packetMade v (Interleaved m) l n b d es ≡ octets w →
-    (i : ℕ) → i < length (groupIn v es) → isErasure (frameAt (groupIn v es) i) ≡ false
-
-unfoldable pub EvrcNeverSendsErasures : Type 0
-EvrcNeverSendsErasures = T (neverSent evrc)

@@ -16,7 +16,8 @@ use Rattle.holding.specs.declared.Holding.{Holding}
 use Rattle.session.specs.declared.Session.{Session}
 use Rattle.session.specs.declared.Taken.the-variants.{Accepted, Refused}
 use Rattle.claims.specs.Sessions.{lostBefore, bodyOctets}
-use Rattle.claims.specs.Demand3.{Sent, offerOne, offerAll, Ready, Delivered, isErasure}
+use Rattle.claims.specs.Demand3.{Sent, offerOne, offerAll, Ready, Delivered}
+use Rattle.claims.specs.Missing.{isErasure}
 
 -- "One that refuses everything: shut out .. by demand 3, where a written packet is accepted."
 unfoldable pub RefusesEverything : Type 0

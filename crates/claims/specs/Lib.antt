@@ -5,5 +5,8 @@ pub mod Packets
 pub mod Joinings
 pub mod Sessions
 pub mod Demand3
+pub mod Missing
+pub mod Sending
+pub mod Boxes
 pub mod Idle
 pub mod Determined

@@ -182,6 +182,9 @@ static uint8_t make_call(const struct request *r)
         takes(r, 3, 3);
         return lv_packet_write_header_free(u8(r, 0), u8(r, 1), u8(r, 2), lent(r, 0), len(r, 0), lent(r, 1), len(r, 1),
                                            out_size(r, 2));
+    case 8:
+        takes(r, 0, 3);
+        return lv_capture_record(lent(r, 0), len(r, 0), lent(r, 1), len(r, 1), out_size(r, 2));
     }
     fail("malformed request: no such call");
     return 0;

@@ -43,7 +43,8 @@ enum lv_answer {
     LV_WRONG_OPENING = 18,      /* a recording's opening octets are missing or wrong */
     LV_BODY_CUT = 19,           /* a recording entry's body is cut */
     LV_NOT_SAME_GROUP = 20,     /* two holdings are not of the same group */
-    LV_NOT_APPLICABLE = 21      /* wrong form, maxima or D out of range, no such frame, nothing open or held */
+    LV_NOT_APPLICABLE = 21,     /* wrong form, maxima or D out of range, no such frame, nothing open or held */
+    LV_BAD_CAPTURE = 255        /* not a capture, or one with octets left over */
 };
 
 /* The agreed form of a session: the calls' `form`. Any other number answers LV_NOT_APPLICABLE. */
@@ -110,6 +111,13 @@ uint8_t lv_recording_frame(const uint8_t *recording, size_t len, size_t k, uint8
  * of octets written to out, LV_OPENING_OCTETS + entries_len.
  * Refuses, in this order: entry by entry 5, 19; then 15. */
 uint8_t lv_recording_write(const uint8_t *entries, size_t entries_len, uint8_t *out, size_t out_len, size_t *written);
+
+/* Records a capture: at most 65,536 octets, big-endian: a count (2, at most 256), then for each packet its source (4), sequence
+ * (2), timestamp (4) and length (2), then all payloads in that order and nothing after. A session takes the first packet's
+ * source, interleaved, maxima 7 and 10. On LV_OK: *written is the number of octets of the recording written to out, at most
+ * 331,807.
+ * Refuses, in this order: 255 (bad capture), 15. */
+uint8_t lv_capture_record(const uint8_t *capture, size_t len, uint8_t *out, size_t out_len, size_t *written);
 
 #ifdef __cplusplus
 }

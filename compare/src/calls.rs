@@ -19,6 +19,7 @@ const RECORDING_FRAME: u8 = 4;
 const RECORDING_WRITE: u8 = 5;
 const PACKET_WRITE: u8 = 6;
 const PACKET_WRITE_HEADER_FREE: u8 = 7;
+const CAPTURE_RECORD: u8 = 8;
 
 /// The most octets of a fence.
 const FENCE: usize = 16;
@@ -189,6 +190,15 @@ pub fn packet_write_header_free(
     }
 }
 
+/// Asks for `lv_capture_record`, with this output before the call.
+pub fn capture_record(capture: &[u8], before: &WriteOut, rng: &mut Rng) -> Request {
+    Request {
+        call: CAPTURE_RECORD,
+        scalars: Vec::new(),
+        buffers: write_buffers(capture, before, rng),
+    }
+}
+
 /// What a writer did.
 pub fn write_told(request: &Request, response: &Response) -> Told<WriteOut> {
     let made = Made { request, response };
@@ -206,8 +216,8 @@ fn frame_buffers(octets: &[u8], before: FrameOut, rng: &mut Rng) -> Vec<Buffer> 
 }
 
 /// The buffers of a call that writes.
-fn write_buffers(entries: &[u8], before: &WriteOut, rng: &mut Rng) -> Vec<Buffer> {
-    vec![lent(entries, rng), out(&before.octets, rng), out_size(before.written, rng)]
+fn write_buffers(given: &[u8], before: &WriteOut, rng: &mut Rng) -> Vec<Buffer> {
+    vec![lent(given, rng), out(&before.octets, rng), out_size(before.written, rng)]
 }
 
 // Out-parameters that no answer has. An output has any octets.
@@ -339,6 +349,7 @@ pub fn changes_are_noticed(rng: &mut Rng) -> bool {
             recording_write(&octets, &output, rng),
             packet_write(agreed, head, &octets, &output, rng),
             packet_write_header_free(agreed, &octets, &output, rng),
+            capture_record(&octets, &output, rng),
         ];
         requests.iter().all(noticed)
     })

@@ -1,15 +1,20 @@
-//! Scripts, made and answered from standard input to standard output.
+//! Scripts, made and answered from standard input to standard output; captures,
+//! made and recorded likewise.
 
 use std::ffi::OsString;
 use std::io::{self, Read, Write};
 use std::process::ExitCode;
 
-use crate::inputs::scripts;
+use crate::captures::programs;
+use crate::inputs::{captures, scripts};
 use crate::paper::Slip;
 use crate::script::{self, listing, slips, text};
 
 pub const USAGE: &str = "       compare script | assemble | listing | slips < INPUT\n       \
-                         compare random-script SEED LENGTH";
+                         compare random-script SEED LENGTH\n       \
+                         compare record < CAPTURE\n       \
+                         compare random-capture SEED\n       \
+                         compare programs SEED COUNT -- COMMAND [WORDS..]";
 
 /// What goes to standard output, and whether all is well; or an error.
 type Served = Result<(Vec<u8>, bool), String>;
@@ -24,6 +29,11 @@ pub fn serve(words: &[OsString]) -> Option<ExitCode> {
         ["listing"] => listed(),
         ["slips"] => slips_caught(),
         ["random-script", seed, length] => random(seed.parse().ok()?, length.parse().ok()?),
+        ["record"] => recorded(),
+        ["random-capture", seed] => Ok((captures::random(seed.parse().ok()?), true)),
+        ["programs", seed, count, "--", ref command @ ..] if !command.is_empty() => {
+            compared(seed.parse().ok()?, count.parse().ok()?, command)
+        }
         _ => return None,
     };
     let written = served.and_then(|(octets, well)| {
@@ -67,6 +77,18 @@ fn slips_caught() -> Served {
 
 fn random(seed: u64, length: usize) -> Served {
     Ok((scripts::seeded(seed, length), true))
+}
+
+/// The recording of a capture, or the line that says it is bad, and is not well.
+fn recorded() -> Served {
+    Ok(programs::due(&input()?))
+}
+
+/// How many captures a program records otherwise; all is well if none.
+fn compared(seed: u64, count: u64, command: &[&str]) -> Served {
+    let differences = programs::differences(seed, count, command)?;
+    let told = format!("programs: {count} captures, {differences} differences\n");
+    Ok((told.into_bytes(), differences == 0))
 }
 
 fn input() -> Result<Vec<u8>, String> {

@@ -5,7 +5,8 @@
 //! `inputs` what both are given. `trial` tries one case on all sides, `trips`
 //! gives to one call what came out of another, and `comparison` does both many
 //! times. Each subject has a module that runs its comparison: `payloads` (read),
-//! `recordings` (read and written) and `packets` (written).
+//! `recordings` (read and written), `packets` (written) and `captures`
+//! (recorded).
 //!
 //! The library is called by another program, `serve.c`. Compile that for the
 //! library's machine, with `include/` to find the header and `liblanding.a`
@@ -29,8 +30,19 @@
 //! compare slips         < SCRIPT
 //! compare random-script SEED LENGTH > SCRIPT
 //! ```
+//!
+//! Programs that record captures are compared likewise. `record` does what such
+//! a program has to do; `programs` starts COMMAND once for each of COUNT random
+//! captures, by the seeds from SEED on, and compares what it writes:
+//!
+//! ```text
+//! compare record        < CAPTURE > RECORDING
+//! compare random-capture SEED > CAPTURE
+//! compare programs SEED COUNT -- COMMAND [WORDS..]
+//! ```
 
 mod calls;
+mod captures;
 mod comparison;
 mod desk;
 mod inputs;
@@ -98,5 +110,6 @@ fn compare(
     payloads::compare(seed, &mut library, report)?;
     recordings::compare(seed, &mut library, report)?;
     packets::compare(seed, &mut library, report)?;
+    captures::compare(seed, &mut library, report)?;
     library.end()
 }

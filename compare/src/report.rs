@@ -45,6 +45,12 @@ impl Report {
         println!("failure: {told}");
     }
 
+    /// Whether nothing differs and nothing falls short so far.
+    #[cfg(test)]
+    pub fn is_good(&self) -> bool {
+        self.differences == 0 && self.failures == 0
+    }
+
     /// The last line, and the status to leave with.
     pub fn close(self) -> ExitCode {
         let Report { cases, differences, slips, failures } = self;

@@ -1,6 +1,7 @@
 //! Inputs for the comparison, made from a seed: the same seed, the same inputs.
 
 pub mod agreed;
+pub mod captures;
 pub mod frames;
 mod octets;
 pub mod packets;

@@ -15,7 +15,7 @@ impl Writable for Packet {
         }
     }
 
-    fn entries(&self) -> &[u8] {
+    fn given(&self) -> &[u8] {
         &self.entries
     }
 

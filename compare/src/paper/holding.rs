@@ -43,7 +43,10 @@ impl Holding {
     /// The holding of a group's first packet to be heard.
     pub fn begun(group: Group, n: u8, packet: HeldPacket) -> Holding {
         let mut packets = vec![None; group.packets().into()];
-        packets[usize::from(n)] = Some(packet);
+        // Only a slip brings an N above L here.
+        if let Some(place) = packets.get_mut(usize::from(n)) {
+            *place = Some(packet);
+        }
         Holding { group, packets }
     }
 

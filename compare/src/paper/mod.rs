@@ -5,6 +5,7 @@
 //! Every reading takes a [`Slip`]: `Slip::None` is document 01, any other is
 //! document 01 with one deliberate mistake, which the comparison has to catch.
 
+pub mod capture;
 mod entries;
 mod form;
 pub mod frames;

@@ -6,7 +6,7 @@ use super::room;
 use super::Slip;
 
 /// "The opening octets 23 21 45 56 52 43 0A."
-const OPENING: [u8; 7] = [0x23, 0x21, 0x45, 0x56, 0x52, 0x43, 0x0A];
+pub const OPENING: [u8; 7] = [0x23, 0x21, 0x45, 0x56, 0x52, 0x43, 0x0A];
 
 /// The frames of a recording: "18 (opening missing or wrong), then entry by
 /// entry 5, 19". "Opening octets alone are a recording of no frames."

@@ -210,4 +210,46 @@ slips! {
         JoinedOverB => "holdings of two B are joined",
         FourteenBeforeTwenty => "14 comes before 20",
     }
+
+    /// In taking a capture apart.
+    CAPTURE {
+        CaptureOf65536Bad => "a capture of 65,536 octets is bad",
+        CaptureOf65537Taken => "a capture of 65,537 octets is good",
+        Count256Bad => "a count of 256 is bad",
+        Count257Taken => "a count of 257 is good",
+        Count0Bad => "a count of 0 is bad",
+        CountLittleEndian => "the count is read little-endian",
+        CountOfOneOctet => "the count is its low octet",
+        TableLittleEndian => "the table is read little-endian",
+        TimestampBeforeSequence => "the table has the timestamp before the sequence number",
+        LengthOfOneOctet => "a length is its low octet",
+        PayloadsInTable => "each payload follows its packet's numbers in the table",
+        CaptureLeftOverTaken => "octets after the last payload are accepted",
+        CaptureCutTaken => "payloads are taken as far as the capture goes",
+        FifteenBeforeBadCapture => "15 comes before 255 if there is no room for the opening",
+    }
+
+    /// In recording a capture.
+    RECORDER {
+        SourceOfLastPacket => "the session takes the last packet's source",
+        SourceOfFirstReadable => "the session takes the source of the first packet it can read",
+        SourceFollowed => "a packet of another source opens the session anew",
+        RecorderMaximumL5 => "the session's maxima are 5 and 10",
+        RecorderMaximumB9 => "the session's maxima are 7 and 9",
+        LostNotRecorded => "lost frames are not recorded",
+        LostRecordedAsBlank => "lost frames are recorded as 00",
+        LostRecordedOnce => "lost frames are recorded as one entry",
+        NotOfferedAgain => "on 12 the packet is not offered again",
+        TwelveNotPoured => "12 skips the packet as other refusals do",
+        ElevenPours => "11 pours and offers again as 12 does",
+        FourteenPours => "14 pours and offers again as 12 does",
+        ThirteenPours => "13 pours the group",
+        RefusedAgainEndsRun => "a packet refused when offered again ends the recording",
+        RefusedAgainKeepsGroup => "the group is poured only if the packet offered again is taken",
+        RefusalEndsRun => "any refusal but 12 ends the recording",
+        RefusalIsBad => "any refusal but 12 makes the capture bad",
+        EndNotPoured => "what is held at the end is not poured",
+        RecorderOpeningMissing => "the recording has no opening",
+        OpeningOnlyWithPackets => "count 0 gives no octets",
+    }
 }

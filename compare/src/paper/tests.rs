@@ -3,7 +3,7 @@
 use super::groups::{Base, Group};
 use super::place::{judge_d, judge_e};
 use super::session::{Packet, Session};
-use super::{holding, joining, Limits, Slip};
+use super::{capture, holding, joining, Limits, Slip};
 use crate::inputs::hex;
 
 const SOURCE: u32 = 7;
@@ -141,4 +141,44 @@ fn the_greatest_group_is_poured_in_time_order() {
     let entry = |place| [&[4][..], &[place; 22]].concat();
     assert_eq!(session.pour(1839, Slip::None), Err(15));
     assert_eq!(session.pour(1840, Slip::None), Ok((0..80).flat_map(entry).collect()));
+}
+
+/// The whole case as a capture.
+const WHOLE_CASE: &str = "00 02 00 00 00 07 FF FF FF FF FF 60 00 07 00 00 00 07 00 00 00 00 00 00 \
+                          00 07 08 81 01 11 11 33 33 09 81 01 22 22 44 44";
+
+/// What is recorded of a capture, behind the opening octets.
+fn recorded(capture: &[u8]) -> Option<Vec<u8>> {
+    let recording = capture::recorded(capture, Slip::None)?;
+    let entries = recording.strip_prefix(&hex("23 21 45 56 52 43 0A")[..]);
+    Some(entries.expect("a recording has its opening").to_vec())
+}
+
+#[test]
+fn p11_as_a_capture() {
+    let whole_case = hex(WHOLE_CASE);
+    let poured = hex("01 11 11 01 22 22 01 33 33 01 44 44");
+    assert_eq!(recorded(&whole_case), Some(poured));
+    assert_eq!(capture::record(&whole_case, 18, Slip::None), Err(15));
+    assert_eq!(capture::record(&whole_case, 19, Slip::None).map(|octets| octets.len()), Ok(19));
+    for cut in 0..whole_case.len() {
+        assert_eq!(recorded(&whole_case[..cut]), None, "cut to {cut}");
+    }
+    assert_eq!(recorded(&[&whole_case[..], &[0]].concat()), None);
+    assert_eq!(capture::record(&whole_case[1..], 0, Slip::None), Err(255));
+}
+
+#[test]
+fn p12_as_a_capture() {
+    let first = "00 01 00 00 00 07 FF FF FF FF FF 60 00 07 08 81 01 11 11 33 33";
+    assert_eq!(recorded(&hex(first)), Some(hex("01 11 11 0E 01 33 33 0E")));
+}
+
+#[test]
+fn no_packet_gives_the_opening() {
+    assert_eq!(recorded(&hex("00 00")), Some(Vec::new()));
+    assert_eq!(capture::record(&hex("00 00"), 6, Slip::None), Err(15));
+    for bad in ["", "00", "00 00 00", "01 01", "FF FF"] {
+        assert_eq!(recorded(&hex(bad)), None, "{bad}");
+    }
 }

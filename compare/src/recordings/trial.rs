@@ -58,7 +58,7 @@ impl Writable for Entries {
         "lv_recording_write"
     }
 
-    fn entries(&self) -> &[u8] {
+    fn given(&self) -> &[u8] {
         &self.0
     }
 

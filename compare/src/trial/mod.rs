@@ -80,14 +80,19 @@ impl<C: Case> Trial<C> {
         made.map(|((call, request), response)| C::told(call, request, response)).collect()
     }
 
+    /// What document 01 shows, read with a slip.
+    pub fn paper(&self, slip: Slip) -> Vec<Shown<C>> {
+        self.case.paper(&self.calls, slip)
+    }
+
     /// Whether document 01 read with a slip shows anything else than `shown`.
     pub fn differs(&self, shown: &[Shown<C>], slip: Slip) -> bool {
-        self.case.paper(&self.calls, slip) != *shown
+        self.paper(slip) != *shown
     }
 
     /// The same against what the case was built or stated to mean, if it was.
     pub fn differs_from_meant(&self, slip: Slip) -> bool {
-        let paper = self.case.paper(&self.calls, slip);
+        let paper = self.paper(slip);
         let mut sides = self.calls.iter().zip(paper);
         sides.any(|(call, paper)| self.case.meant(call).is_some_and(|meant| meant != paper))
     }
@@ -96,7 +101,7 @@ impl<C: Case> Trial<C> {
     /// the case was meant to be. A case counts as one difference at most.
     pub fn compare(&self, library: &[Shown<C>], report: &mut Report) {
         report.case();
-        let paper = self.case.paper(&self.calls, Slip::None);
+        let paper = self.paper(Slip::None);
         for ((call, library), paper) in self.calls.iter().zip(library).zip(&paper) {
             let meant = self.case.meant(call);
             if library != paper || meant.as_ref().is_some_and(|meant| meant != paper) {

@@ -1,5 +1,5 @@
-//! What writers have in common: entries come in, and octets go out if there is
-//! room for them.
+//! What writers have in common: entries or a capture come in, and octets go out
+//! if there is room for them.
 
 use std::fmt::{self, Formatter};
 
@@ -15,8 +15,8 @@ pub trait Writable {
     /// The name of the call.
     fn name(&self) -> &'static str;
 
-    /// The entries.
-    fn entries(&self) -> &[u8];
+    /// The octets it writes from.
+    fn given(&self) -> &[u8];
 
     /// What the call is given beside them, in words.
     fn beside(&self) -> String;
@@ -25,6 +25,11 @@ pub trait Writable {
 
     /// What document 01 has it write into so much room.
     fn paper(&self, room: usize, slip: Slip) -> Result<Vec<u8>, u8>;
+
+    /// The same for each of some rooms.
+    fn papers(&self, rooms: &[usize], slip: Slip) -> Vec<Result<Vec<u8>, u8>> {
+        rooms.iter().map(|&room| self.paper(room, slip)).collect()
+    }
 }
 
 /// Something to write.
@@ -57,9 +62,9 @@ impl<I: Writable> WriteCase<I> {
         WriteCase { meant: Some(meaning), ..self }
     }
 
-    /// What document 01 has a call do that is lent this output.
-    fn paper_once(&self, before: &WriteOut, slip: Slip) -> Told<WriteOut> {
-        let outcome = self.input.paper(before.octets.len(), slip);
+    /// What is shown for what document 01 has a call give that is lent this
+    /// output.
+    fn shown(&self, before: &WriteOut, outcome: Result<Vec<u8>, u8>, slip: Slip) -> Told<WriteOut> {
         let mut told = show(before, outcome, slip);
         if slip == Slip::RoomFilledBefore15 && told.answer == 15 {
             let wanted = self.input.paper(usize::MAX, slip).unwrap_or_default();
@@ -77,7 +82,7 @@ impl<I: Writable> Case for WriteCase<I> {
     /// Room for nothing, for all but an octet, for all, and for more.
     fn calls(&self, rng: &mut Rng) -> Vec<WriteOut> {
         let needed = self.input.paper(usize::MAX, Slip::None).map(|octets| octets.len());
-        let rooms = rooms(rng, needed.unwrap_or(self.input.entries().len()));
+        let rooms = rooms(rng, needed.unwrap_or(self.input.given().len()));
         rooms.into_iter().map(|room| WriteOut::no_answer(room, rng)).collect()
     }
 
@@ -90,7 +95,10 @@ impl<I: Writable> Case for WriteCase<I> {
     }
 
     fn paper(&self, outputs: &[WriteOut], slip: Slip) -> Vec<Told<WriteOut>> {
-        outputs.iter().map(|before| self.paper_once(before, slip)).collect()
+        let rooms: Vec<usize> = outputs.iter().map(|before| before.octets.len()).collect();
+        let outcomes = self.input.papers(&rooms, slip);
+        let sides = outputs.iter().zip(outcomes);
+        sides.map(|(before, outcome)| self.shown(before, outcome, slip)).collect()
     }
 
     /// 15 comes last in every writer.
@@ -103,9 +111,9 @@ impl<I: Writable> Case for WriteCase<I> {
     }
 
     fn tell(&self, before: &WriteOut, f: &mut Formatter) -> fmt::Result {
-        let (entries, room) = (self.input.entries(), before.octets.len());
+        let (given, room) = (self.input.given(), before.octets.len());
         write!(f, "{} ({}){}", self.input.name(), self.name, self.input.beside())?;
-        write!(f, ", {} octets, room for {room}\n  given   {}", entries.len(), Hex(entries))
+        write!(f, ", {} octets, room for {room}\n  given   {}", given.len(), Hex(given))
     }
 }
 

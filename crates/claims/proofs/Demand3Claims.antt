@@ -6,7 +6,7 @@ use mathlib.Core.Bool.{Bool, true, false, not, cond, _&&_, _||_}
 use native.Mathlib.Omega.{arith}
 use lib.Dec.{eqb, leb}
 use lib.ListN.{length}
-use borrow.Author.Tests.{eq-eqb, ne-eqb, leb-true, eqb-true, eqb-false}
+use borrow.Author.Tests.{eq-eqb, leb-true, eqb-true, eqb-false}
 use Rattle.octets.proofs.Logic.{apart, both-true}
 use Rattle.frame.specs.Table.{Vocoder, Frame, AllListed}
 use Rattle.frame.specs.Places.{frameAt}
@@ -18,12 +18,12 @@ use Rattle.packet.specs.Packet.{placeOf, packetFrames}
 use Rattle.packet.proofs.Numbering.{place-in}
 use Rattle.packet.proofs.Packing.{length-packet, packet-at}
 use Rattle.holding.specs.Bases.{minus, baseSequence, baseTimestamp}
-use Rattle.holding.specs.Group.{isNothing, blank, begun, heldAt, packetOf, withPacket, samePackets, holds}
+use Rattle.holding.specs.Group.{isNothing, begun, heldAt, packetOf, withPacket, samePackets, holds}
 use Rattle.holding.specs.LaidOut.{laid}
 use Rattle.holding.specs.declared.Holding.{Holding}
 use Rattle.pouring.specs.Pouring.{inTime}
 use Rattle.knowledge.specs.Knowledge.{Box, Known, heard, lost, framesHeard, knownOf, frameKnown}
-use Rattle.holding.proofs.GroupLaws.{holds-sound}
+use Rattle.holding.proofs.GroupLaws.{holds-sound, sound-something}
 use Rattle.knowledge.proofs.JoinLaws.{box-sound}
 use Rattle.knowledge.proofs.KnowledgeLaws.{known-held, heard-laid, heard-same}
 use Rattle.knowledge.proofs.PacketLaws.{packets-refl, listed-upTo}
@@ -75,21 +75,8 @@ module _ (v : Vocoder) (s : Session) (source sequence timestamp l n d : ℕ) (fs
   offer-read o e r = simp (o, eq-eqb source (s .source) (sym e), r)
 
 -- ---- a holding that holds a packet is not that of nothing
-and-false : (a b c d e f : Bool) → e ≡ false → a && (b && (c && (d && (e && f)))) ≡ false
-and-false false b c d e f h = refl
-and-false true false c d e f h = refl
-and-false true true false d e f h = refl
-and-false true true true false e f h = refl
-and-false true true true true e f h = rw h
-
 pub some-held : (v : Vocoder) (h : Holding) → Box v h → isNothing h ≡ false
-unfolding isNothing
-some-held v h x =
-    let b : h .b ≡ 0 → ⊥ = λ e. no-zero (box-sound v h x .some) e in
-    and-false (eqb (h .source) 0) (eqb (h .sequence) 0) (eqb (h .timestamp) 0) (eqb (h .l) 0) (eqb (h .b) 0) (blank h) (ne-eqb (h .b) 0 b)
-  where
-    no-zero : {x : ℕ} → 1 ≤ x → x ≡ 0 → ⊥
-    no-zero i j = absurd (omega arith)
+some-held v h x = sound-something v h (box-sound v h x)
 
 -- ---- a session with another group held stays open
 open-with : (v : Vocoder) (s : Session) (h : Holding) → isOpen v s ≡ true → Box v h → h .source ≡ s .source → isOpen v (withGroup s h) ≡ true

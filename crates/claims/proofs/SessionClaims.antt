@@ -17,10 +17,10 @@ use Rattle.payload.specs.Payload.{Reading, packet, readAs}
 use Rattle.payload.specs.Payload as payload
 use Rattle.recording.specs.Entries.{entriesOf}
 use Rattle.holding.specs.Bases.{minus, baseSequence}
-use Rattle.holding.specs.Group.{nothing, begun, blank, isNothing, heldAt, packetOf, withPacket, samePackets, holds}
+use Rattle.holding.specs.Group.{nothing, begun, isNothing, heldAt, packetOf, withPacket, samePackets, holds}
 use Rattle.holding.specs.LaidOut.{laid}
+use Rattle.holding.proofs.GroupLaws.{nothing-is}
 use Rattle.pouring.specs.Pouring.{inTime, poured}
-use Rattle.octets.specs.Octets.{anySet, allZero, sameOctets}
 use Rattle.session.specs.Session.{vacant, never, fresh, formRight, lastRight, groupRight, opening, isOpen, refuse, accept, withGroup, sameBase, atDistance, inGroup, begins, afterLast, noGroup, placed, arrival, judged, offered}
 use Rattle.session.specs.declared.Session.{Session}
 use Rattle.session.specs.declared.Arrival.{Arrival}
@@ -145,10 +145,6 @@ opening-forgets s t source form e = (simp e, simp e)
 pub ended-takes-nothing : EndedTakesNothing
 unfolding EndedTakesNothing offered isOpen never vacant
 ended-takes-nothing v source q t p = refl
-
-nothing-is : isNothing nothing ≡ true
-unfolding isNothing nothing begun blank anySet allZero sameOctets
-nothing-is = refl
 
 fresh-open : (v : Vocoder) (source : ℕ) (form : Form) → formRight form ≡ true → isOpen v (fresh source form) ≡ true
 unfolding isOpen fresh vacant lastRight groupRight

@@ -2,22 +2,23 @@
 use Prim.Native.Nat.{ℕ, zero, suc, _+_, _-_, _*_, _≤_, _<_}
 use mathlib.Core.Bool.{Bool, true, false, _&&_}
 use mathlib.Core.Path.{_≡_, refl, sym, ap, _∙_}
-use mathlib.Core.List.{List, [], _∷_}
+use mathlib.Core.List.{List}
 use mathlib.Core.Logic.{⊎-elim}
 use native.Mathlib.Numerals.{add-one}
 use native.Mathlib.Omega.{arith}
-use native.Mathlib.Nat.{le-of-suc-le-suc, not-suc-le-zero, eq-or-lt-of-le, sub-zero, zero-sub}
-use lib.Seq.{take-nil, drop-drop}
+use native.Mathlib.Nat.{le-of-suc-le-suc, not-suc-le-zero, eq-or-lt-of-le}
+use lib.Seq.{drop-drop}
 use lib.ListN.{length, take, drop, getD, length-take, length-drop}
 use lib.Dec.{eqb, leb}
 use borrow.Author.Tests.{eq-eqb, ne-eqb, lt-ltb, le-ltb, le-leb, lt-leb, leb-true}
 use Rattle.octets.specs.Octets.{allZero, anySet, sameOctets}
 use Rattle.octets.proofs.Logic.{both-true, both-false}
+use Rattle.octets.proofs.OctetLaws.{drop-take}
 use Rattle.frame.specs.Table.{Vocoder, rowOf, known, erasure}
 use Rattle.frame.specs.declared.Row.{Row}
 use Rattle.frame.specs.declared.Lookup.the-variants.{Found, Missing}
 use Rattle.frame.proofs.TableLaws.{found-known, found-size}
-use Rattle.holding.specs.Group.{allBelow, region, packetIn, erased, nothing, blank, isNothing, samePackets, markAt, mayStand, frameRight, framesRight, heldAt, packetOf, packetRight, rightAt, sound, holds}
+use Rattle.holding.specs.Group.{allBelow, region, packetIn, erased, begun, nothing, blank, isNothing, samePackets, markAt, mayStand, frameRight, framesRight, heldAt, packetOf, packetRight, rightAt, sound, holds}
 use Rattle.holding.specs.declared.Holding.{Holding}
 use Rattle.holding.specs.declared.Packet.{Packet}
 
@@ -79,12 +80,6 @@ unfolding region
 length-region xs s n h = simp (length-take, length-drop) (omega arith)
 
 -- the end of a part, as the code cuts it
-pub drop-take : (m n : ℕ) (l : List ℕ) → drop m (take n l) ≡ take (n - m) (drop m l)
-drop-take zero n l = ap (λ (k : ℕ). take k l) (sym (sub-zero n))
-drop-take (suc m) zero l = sym (ap (λ (k : ℕ). take k (drop (suc m) l)) (zero-sub (suc m)))
-drop-take (suc m) (suc n) [] = sym (take-nil (suc n - suc m))
-drop-take (suc m) (suc n) (x ∷ xs) = drop-take m n xs ∙ ap (λ (k : ℕ). take k (drop m xs)) (sym (let e : suc n - suc m ≡ n - m = omega arith in e))
-
 pub tail-is : (xs : List ℕ) (s k z : ℕ) → z ≤ s → take (s * k + s - (s * k + z)) (drop (s * k + z) xs) ≡ drop z (region xs s k)
 unfolding region
 tail-is xs s k z h =
@@ -175,6 +170,25 @@ has-sound v h s = simp (le-leb _ _ (s .low), le-leb _ _ (s .some), le-leb _ _ (s
 pub holds-sound : (v : Vocoder) (h : Holding) → holds v h ≡ true → (sound v h ≡ true) × (anySet (h .held) ≡ true)
 unfolding holds
 holds-sound v h e = both-true (sound v h) (anySet (h .held)) e
+
+-- nothing is nothing
+pub nothing-is : isNothing nothing ≡ true
+unfolding isNothing nothing begun blank anySet allZero sameOctets
+nothing-is = refl
+
+-- a holding that keeps the rule is not that of nothing: its B is not 0
+and-false : (a b c d e f : Bool) → e ≡ false → a && (b && (c && (d && (e && f)))) ≡ false
+and-false false b c d e f h = refl
+and-false true false c d e f h = refl
+and-false true true false d e f h = refl
+and-false true true true false e f h = refl
+and-false true true true true e f h = rw h
+
+pub sound-something : (v : Vocoder) (h : Holding) → Sound v h → isNothing h ≡ false
+unfolding isNothing
+sound-something v h s =
+    let b : h .b ≡ 0 → ⊥ = λ (e : h .b ≡ 0). absurd (omega (arith, s .some)) in
+    and-false (eqb (h .source) 0) (eqb (h .sequence) 0) (eqb (h .timestamp) 0) (eqb (h .l) 0) (eqb (h .b) 0) (blank h) (ne-eqb (h .b) 0 b)
 
 -- ---- a holding of nothing, test by test
 module _ (h : Holding) where

@@ -3,12 +3,12 @@
 use Prim.Native.Nat.{ℕ, zero, suc, _+_, _-_, _*_, _≤_, _<_}
 use mathlib.Core.Bool.{Bool, true, false, cond}
 use mathlib.Core.Path.{_≡_, refl, sym, ap, _∙_}
-use mathlib.Core.List.{List, [], _∷_, _++_, append-assoc}
+use mathlib.Core.List.{List, [], _∷_, _++_}
 use mathlib.Core.Logic.{_⊎_, ⊎-elim, inl, inr}
 use native.Mathlib.Omega.{arith}
 use native.Mathlib.Nat.{le-of-suc-le-suc, not-suc-le-zero, eq-or-lt-of-le, mul-zero, mul-suc, mul-le-mul-left}
-use lib.ListN.{length, take, drop, length-append, length-take, length-drop, length-set, take-append-drop}
-use lib.Seq.{getD-set-same, getD-set-other, take-at, drop-at, take-append-le, take-take, drop-append-add, drop-drop, length-take-le, ext-getD}
+use lib.ListN.{length, take, drop, length-drop, length-set, take-append-drop}
+use lib.Seq.{getD-set-same, getD-set-other, drop-drop, ext-getD}
 use lib.Dec.{ltb}
 use borrow.Author.Tests.{ltb-true, ltb-false}
 use Rattle.octets.specs.Octets.{over}
@@ -17,43 +17,9 @@ use Rattle.joining.specs.Joining.{takeOne, takeBelow}
 use Rattle.holding.specs.declared.Holding.{Holding}
 use Rattle.holding.specs.declared.Packet.{Packet}
 use Rattle.joining.proofs.Heads.{SameHead, same-fields}
-use Rattle.holding.proofs.GroupLaws.{length-region, drop-take}
+use Rattle.holding.proofs.GroupLaws.{length-region}
+use Rattle.octets.proofs.OctetLaws.{length-over, over-same, over-before, over-after}
 use Rattle.knowledge.specs.Knowledge.{Shaped}
-
--- ---- a window of k elements at j, after a list was written over at `at`
-
-module _ (xs : List ℕ) (at : ℕ) (p : List ℕ) (fits : at + length p ≤ length xs) where
-  pub length-over : length (over xs at p) ≡ length xs
-  unfolding over
-  length-over = simp (length-append, length-take, length-drop) (omega arith)
-
-  pub over-same : (k : ℕ) → length p ≡ k → take k (drop at (over xs at p)) ≡ p
-  unfolding over
-  over-same k e =
-      rw (append-assoc (take at xs) p (drop (at + length p) xs), drop-at (take at xs) (p ++ drop (at + length p) xs) at (length-take-le at xs (omega arith)))
-      (take-at p (drop (at + length p) xs) k e)
-
-  pub over-before : (j k : ℕ) → j + k ≤ at → take k (drop j (over xs at p)) ≡ take k (drop j xs)
-  unfolding over
-  over-before j k h =
-      let t : length (take at xs) ≡ at = length-take-le at xs (omega arith) in
-      window j k (over xs at p)
-      ∙ rw (append-assoc (take at xs) p (drop (at + length p) xs), take-append-le (j + k) (take at xs) (p ++ drop (at + length p) xs) (omega arith), take-take (j + k) at xs h)
-      (sym (window j k xs))
-    where
-      window : (j k : ℕ) (l : List ℕ) → take k (drop j l) ≡ drop j (take (j + k) l)
-      window j k l = let e : j + k - j ≡ k = omega arith in sym (drop-take j (j + k) l ∙ rw e)
-
-  pub over-after : (j k : ℕ) → at + length p ≤ j → take k (drop j (over xs at p)) ≡ take k (drop j xs)
-  unfolding over
-  over-after j k h =
-      let d : ℕ = j - (at + length p) in
-      let t : length (take at xs) ≡ at = length-take-le at xs (omega arith) in
-      let l : length (take at xs ++ p) ≡ at + length p = simp length-append (omega arith) in
-      let e : j ≡ length (take at xs ++ p) + d = omega arith in
-      let f : at + length p + d ≡ j = omega arith in
-      ap (λ (z : List ℕ). take k z)
-      (ap (λ (i : ℕ). drop i (take at xs ++ p ++ drop (at + length p) xs)) e ∙ drop-append-add (take at xs ++ p) (drop (at + length p) xs) d ∙ drop-drop d (at + length p) xs ∙ ap (λ (i : ℕ). drop i xs) f)
 
 -- ---- the shape that a holding's type gives it
 

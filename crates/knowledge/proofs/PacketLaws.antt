@@ -12,7 +12,7 @@ use lib.Dec.{T, eqb, ltb}
 use borrow.Author.Tests.{eqb-true, ltb-true, ltb-false, lt-ltb, le-ltb}
 use Rattle.octets.specs.Octets.{allZero, sameOctets}
 use Rattle.octets.proofs.Logic.{apart, both-true}
-use Rattle.octets.proofs.OctetLaws.{same-refl, same-true}
+use Rattle.octets.proofs.OctetLaws.{same-refl, same-true, drop-take}
 use Rattle.frame.specs.Table.{Vocoder, Frame, known, size, within, erasure, erases, typesOf, Listed, AllListed}
 use Rattle.frame.specs.Places.{frameAt, noFrame, upTo}
 use Rattle.frame.proofs.TableLaws.{size-within, erasure-listed}
@@ -22,7 +22,7 @@ use Rattle.holding.specs.LaidOut.{filled, rooms, laid}
 use Rattle.pouring.specs.Pouring.{frameIn}
 use Rattle.holding.specs.declared.Holding.{Holding}
 use Rattle.holding.specs.declared.Packet.{Packet}
-use Rattle.holding.proofs.GroupLaws.{all-at, all-intro, length-region, drop-take}
+use Rattle.holding.proofs.GroupLaws.{all-at, all-intro, length-region}
 use Rattle.holding.proofs.LaidLaws.{length-filled, Short, length-rooms, listed-short}
 use Rattle.knowledge.proofs.Cells.{Sized, regions-ext}
 

@@ -19,7 +19,10 @@ use Rattle.frame.specs.declared.Written.{Written}
 use Rattle.frame.specs.declared.Written.the-variants as written
 use Rattle.recording.specs.declared.Counted.{Counted}
 use Rattle.recording.specs.declared.Counted.the-variants as counted
-use Rattle.landing.specs.Host.{readNamed, givenNamed, packetTold, packetAfter, placeTold, placeAfter, countTold, countAfter, writtenAfter, withOutput, writeTold, writeAfter}
+use Rattle.capture.specs.Run.{recorded, outputOf}
+use Rattle.capture.specs.declared.Outcome.{Outcome}
+use Rattle.capture.specs.declared.Outcome.the-variants as outcome
+use Rattle.landing.specs.Host.{readNamed, givenNamed, packetTold, packetAfter, placeTold, placeAfter, countTold, countAfter, writtenAfter, withOutput, writeTold, writeAfter, outcomeAfter, recordAfter}
 use Rattle.landing.specs.declared.Named.{Named}
 use Rattle.landing.specs.declared.Named.the-variants.{Agreed, Refused}
 
@@ -82,3 +85,16 @@ pub write-told : (made : Made) (before : List ℕ) (w : Written) (after : List �
 unfolding writeAfter
 write-told made before w after a n n₀ x e =
     ap₂ withOutput (e ∙ ap (λ (y : Written). writtenAfter y n₀) (x .answer)) (x .output)
+
+-- what is told of a capture
+pub capture-bad : (o : Outcome) (n : ℕ) → o ≡ outcome.BadCapture → countTold 255 n ≡ outcomeAfter o n
+unfolding outcomeAfter
+capture-bad o n e = rw e
+
+pub capture-recorded : (o : Outcome) (w : Written) (a n n₀ : ℕ) → o ≡ outcome.Recorded w → countTold a n ≡ writtenAfter w n₀ → countTold a n ≡ outcomeAfter o n₀
+unfolding outcomeAfter
+capture-recorded o w a n n₀ e q = rw e q
+
+pub capture-told : (v : Vocoder) (opening c before after : List ℕ) (o : Outcome) (a n n₀ : ℕ) → (o ≡ recorded v opening c before) × (after ≡ outputOf v opening c before) → countTold a n ≡ outcomeAfter o n₀ → writeTold a n after ≡ recordAfter v opening c n₀ before
+unfolding recordAfter
+capture-told v opening c before after o a n n₀ x e = ap₂ withOutput (e ∙ ap (λ (y : Outcome). outcomeAfter y n₀) (x .0)) (x .1)

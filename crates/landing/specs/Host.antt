@@ -23,6 +23,9 @@ use Rattle.frame.specs.declared.Written.{Written}
 use Rattle.frame.specs.declared.Written.the-variants as written
 use Rattle.recording.specs.declared.Counted.{Counted}
 use Rattle.recording.specs.declared.Counted.the-variants as counted
+use Rattle.capture.specs.Run.{recorded, outputOf}
+use Rattle.capture.specs.declared.Outcome.{Outcome}
+use Rattle.capture.specs.declared.Outcome.the-variants as outcome
 use Rattle.landing.specs.declared.Named.{Named}
 use Rattle.landing.specs.declared.Named.the-variants.{Agreed, Refused}
 
@@ -89,3 +92,11 @@ withOutput (countTold a n) out = writeTold a n out
 
 unfoldable pub writeAfter : Made → ℕ → List ℕ → WriteTold
 writeAfter made n₀ out = withOutput (writtenAfter (writtenOf made out) n₀) (outAfter made out)
+
+-- what a host sees of a capture: 255 where it is bad
+unfoldable pub outcomeAfter : Outcome → ℕ → CountTold
+outcomeAfter outcome.BadCapture n₀ = countTold 255 n₀
+outcomeAfter (outcome.Recorded w) n₀ = writtenAfter w n₀
+
+unfoldable pub recordAfter : Vocoder → List ℕ → List ℕ → ℕ → List ℕ → WriteTold
+recordAfter v opening c n₀ out = withOutput (outcomeAfter (recorded v opening c out) n₀) (outputOf v opening c out)

@@ -1,4 +1,5 @@
 // The calls for a host in C (include/landing_voice.h): numbers and byte slices in, a refusal's number or 0 out.
+use capture::Outcome;
 use frame::Form;
 use frame::Limits;
 use frame::Located;
@@ -28,6 +29,8 @@ ghost use Rattle.landing.specs.Host.{
   writeAfter,
   packetNamed,
   headerFreeNamed,
+  outcomeAfter,
+  recordAfter,
 };
 
 // The agreed form that a host names by a number and two maxima, or the refusal.
@@ -254,4 +257,21 @@ pub extern "C" fn lv_packet_write_header_free(
     ensures { λ r. ⌜ writeTold r (now (written .exit)) (now (out .exit)) ≡ writeAfter (headerFreeNamed evrc (namedForm form «max_l» «max_b») (now (entries .entry))) (now (written .entry)) (now (out .entry)) ⌝ }
 {
     tell_written(header_free_named(form, max_l, max_b, entries, out), written)
+}
+
+fn tell_recorded(outcome: Outcome, written: &mut usize) -> u8
+    ensures { λ r. ⌜ countTold r (now (written .exit)) ≡ outcomeAfter outcome (now (written .entry)) ⌝ }
+{
+    match outcome {
+        Outcome::BadCapture => 255,
+        Outcome::Recorded(made) => tell_written(made, written),
+    }
+}
+
+// Turns a capture into a recording.
+#[no_mangle]
+pub extern "C" fn lv_capture_record(capture: &[u8], out: &mut [u8], written: &mut usize) -> u8
+    ensures { λ r. ⌜ writeTold r (now (written .exit)) (now (out .exit)) ≡ recordAfter evrc evrcOpening (now (capture .entry)) (now (written .entry)) (now (out .entry)) ⌝ }
+{
+    tell_recorded(capture::record(capture, out), written)
 }

@@ -1,16 +1,16 @@
 -- Laws of lists of octets. Assumes nothing.
-use Prim.Native.Nat.{ℕ, zero, suc, _+_, _-_, _≤_, _<_}
+use Prim.Native.Nat.{ℕ, zero, suc, _+_, _-_, _*_, _≤_, _<_}
 use mathlib.Core.Bool.{Bool, true, false, _&&_}
 use mathlib.Core.Path.{_≡_, refl, sym, ap, _∙_}
 use mathlib.Core.List.{List, [], _∷_, _++_, append-assoc, append-nil}
-use native.Mathlib.Nat.{add-zero}
+use native.Mathlib.Nat.{add-zero, sub-zero, zero-sub}
 use native.Mathlib.Numerals.{add-one}
 use native.Mathlib.Omega.{arith}
-use lib.ListN.{take-append-drop, length-drop, length-append, length, take, drop, getD, set, drop-of-length-le}
-use lib.Seq.{take-at, drop-append-add, drop-drop, drop-cons, length-take-le, paste, paste-suc, take-all}
+use lib.ListN.{take-append-drop, length-take, length-drop, length-append, length-replicate, getD-replicate, length, take, drop, getD, set, replicate, drop-of-length-le}
+use lib.Seq.{take-nil, take-at, drop-at, take-append-le, take-take, drop-append-add, drop-drop, drop-cons, length-take-le, paste, paste-suc, take-all}
 use lib.Dec.{eqb}
 use borrow.Author.Tests.{eq-eqb, ne-eqb, eqb-true}
-use Rattle.octets.specs.Octets.{over, sameOctets, allZero, anySet}
+use Rattle.octets.specs.Octets.{over, sameOctets, allZero, anySet, twoAt, fourAt}
 use Rattle.octets.proofs.Logic.{apart, both-true}
 
 -- ---- sameOctets
@@ -108,6 +108,18 @@ copy-all d at s dst i e h k =
     let q : take i s ≡ s = take-all i s k in
     e ∙ ap (λ (l : List ℕ). take at d ++ l ++ drop (at + i) d) q ∙ ap (λ (n : ℕ). take at d ++ s ++ drop (at + n) d) p
 
+-- a loop that writes n octets of x over d, at i
+pub fill-more : (d : List ℕ) (at n x : ℕ) (dst : List ℕ) (i : ℕ) → dst ≡ paste d at (replicate n x) i → at + n ≤ length d → i < n
+    → set dst (at + i) x ≡ paste d at (replicate n x) (i + 1)
+fill-more d at n x dst i e hd hi =
+    let k : length (replicate n x) ≡ n = length-replicate n x in
+    ap (set dst (at + i)) (sym (getD-replicate n i x 0 hi)) ∙ copy-more d at (replicate n x) dst i e (omega arith) (omega arith)
+
+pub fill-all : (d : List ℕ) (at n x : ℕ) (dst : List ℕ) (i : ℕ) → dst ≡ paste d at (replicate n x) i → i ≤ n → n ≤ i → dst ≡ over d at (replicate n x)
+fill-all d at n x dst i e h k =
+    let l : length (replicate n x) ≡ n = length-replicate n x in
+    copy-all d at (replicate n x) dst i e (omega arith) (omega arith)
+
 -- one list written behind another is both written together
 pub over-append : (d : List ℕ) (at : ℕ) (xs ys : List ℕ) → at ≤ length d → over (over d at xs) (at + length xs) ys ≡ over d at (xs ++ ys)
 unfolding over
@@ -121,6 +133,47 @@ over-append d at xs ys h =
     ap (λ (k : ℕ). drop (k + length ys) (A ++ R)) (sym n) ∙ drop-append-add A R (length ys) ∙ drop-drop (length ys) (at + length xs) d
     ∙ ap (λ (k : ℕ). drop k d) m in
     rw (a, b) (ap (λ (l : List ℕ). l ++ drop (at + length (xs ++ ys)) d) (append-assoc (take at d) xs ys))
+
+-- the end of a beginning
+pub drop-take : (m n : ℕ) (l : List ℕ) → drop m (take n l) ≡ take (n - m) (drop m l)
+drop-take zero n l = ap (λ (k : ℕ). take k l) (sym (sub-zero n))
+drop-take (suc m) zero l = sym (ap (λ (k : ℕ). take k (drop (suc m) l)) (zero-sub (suc m)))
+drop-take (suc m) (suc n) [] = sym (take-nil (suc n - suc m))
+drop-take (suc m) (suc n) (x ∷ xs) = drop-take m n xs ∙ ap (λ (k : ℕ). take k (drop m xs)) (sym (let e : suc n - suc m ≡ n - m = omega arith in e))
+
+-- a window of k elements at j, after a list was written over at `at`
+module _ (xs : List ℕ) (at : ℕ) (p : List ℕ) (fits : at + length p ≤ length xs) where
+  pub length-over : length (over xs at p) ≡ length xs
+  unfolding over
+  length-over = simp (length-append, length-take, length-drop) (omega arith)
+
+  pub over-same : (k : ℕ) → length p ≡ k → take k (drop at (over xs at p)) ≡ p
+  unfolding over
+  over-same k e =
+      rw (append-assoc (take at xs) p (drop (at + length p) xs), drop-at (take at xs) (p ++ drop (at + length p) xs) at (length-take-le at xs (omega arith)))
+      (take-at p (drop (at + length p) xs) k e)
+
+  pub over-before : (j k : ℕ) → j + k ≤ at → take k (drop j (over xs at p)) ≡ take k (drop j xs)
+  unfolding over
+  over-before j k h =
+      let t : length (take at xs) ≡ at = length-take-le at xs (omega arith) in
+      window j k (over xs at p)
+      ∙ rw (append-assoc (take at xs) p (drop (at + length p) xs), take-append-le (j + k) (take at xs) (p ++ drop (at + length p) xs) (omega arith), take-take (j + k) at xs h)
+      (sym (window j k xs))
+    where
+      window : (j k : ℕ) (l : List ℕ) → take k (drop j l) ≡ drop j (take (j + k) l)
+      window j k l = let e : j + k - j ≡ k = omega arith in sym (drop-take j (j + k) l ∙ rw e)
+
+  pub over-after : (j k : ℕ) → at + length p ≤ j → take k (drop j (over xs at p)) ≡ take k (drop j xs)
+  unfolding over
+  over-after j k h =
+      let d : ℕ = j - (at + length p) in
+      let t : length (take at xs) ≡ at = length-take-le at xs (omega arith) in
+      let l : length (take at xs ++ p) ≡ at + length p = simp length-append (omega arith) in
+      let e : j ≡ length (take at xs ++ p) + d = omega arith in
+      let f : at + length p + d ≡ j = omega arith in
+      ap (λ (z : List ℕ). take k z)
+      (ap (λ (i : ℕ). drop i (take at xs ++ p ++ drop (at + length p) xs)) e ∙ drop-append-add (take at xs ++ p) (drop (at + length p) xs) d ∙ drop-drop d (at + length p) xs ∙ ap (λ (i : ℕ). drop i xs) f)
 
 -- nothing written over changes nothing
 pub over-nothing : (d : List ℕ) (at : ℕ) → d ≡ over d at []
@@ -139,3 +192,12 @@ set-over (y ∷ d) (suc i) x h =
 -- ---- a part that goes to the end, `&s[n..]`
 pub to-the-end : (p : List ℕ) (n : ℕ) → take (length p - n) (drop n p) ≡ drop n p
 to-the-end p n = take-all (length p - n) (drop n p) (omega (arith, length-drop n p))
+
+-- ---- numbers
+pub two-is : (s : List ℕ) (at : ℕ) → getD s at 0 * 256 + getD s (at + 1) 0 ≡ twoAt s at
+unfolding twoAt
+two-is s at = refl
+
+pub four-is : (s : List ℕ) (at : ℕ) → twoAt s at * 65536 + twoAt s (at + 2) ≡ fourAt s at
+unfolding fourAt
+four-is s at = refl

@@ -1,8 +1,8 @@
 -- Lists of octets, as the contracts speak of them. Document 01 has no section on these: they are words for its others.
-use Prim.Native.Nat.{ℕ, _+_}
+use Prim.Native.Nat.{ℕ, _+_, _*_}
 use mathlib.Core.Bool.{Bool, true, false, _&&_}
 use mathlib.Core.List.{List, [], _∷_, _++_}
-use lib.ListN.{length, take, drop}
+use lib.ListN.{length, take, drop, getD}
 use lib.Dec.{eqb}
 
 -- d with s written over it from index `at` on
@@ -26,3 +26,10 @@ unfoldable pub anySet : List Bool → Bool
 anySet [] = false
 anySet (true ∷ ts) = true
 anySet (false ∷ ts) = anySet ts
+
+-- the big-endian number of two octets, and of four, from index `at` on
+unfoldable pub twoAt : List ℕ → ℕ → ℕ
+twoAt s at = getD s at 0 * 256 + getD s (at + 1) 0
+
+unfoldable pub fourAt : List ℕ → ℕ → ℕ
+fourAt s at = twoAt s at * 65536 + twoAt s (at + 2)

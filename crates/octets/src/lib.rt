@@ -1,8 +1,8 @@
-// Octets in slices: copied, compared, and tested for zero; flags, tested for one that is set.
+// Octets in slices: copied, filled, compared, tested for zero, and read as numbers; flags, tested for one that is set.
 ghost use mathlib.Core.Path.{_≡_};
-ghost use Prim.Native.Nat.{_+_, _≤_};
-ghost use lib.ListN.{length};
-ghost use Rattle.octets.specs.Octets.{over, sameOctets, allZero, anySet};
+ghost use Prim.Native.Nat.{_+_, _*_, _≤_};
+ghost use lib.ListN.{length, replicate};
+ghost use Rattle.octets.specs.Octets.{over, sameOctets, allZero, anySet, twoAt, fourAt};
 
 // internal: a caller has tested the room before the first octet is written.
 // Copies src over dst from index at on.
@@ -13,6 +13,19 @@ pub fn copy(dst: &mut [u8], at: usize, src: &[u8])
     let mut i = 0;
     while i < src.len() {
         dst[at + i] = src[i];
+        i += 1;
+    }
+}
+
+// internal: a caller has tested the room before the first octet is written.
+// Writes n octets of x over dst from index at on.
+pub fn fill(dst: &mut [u8], at: usize, n: usize, x: u8)
+    requires { ⌜ at + n ≤ length (now dst) ⌝ }
+    ensures { λ _. ⌜ now (dst .exit) ≡ over (now (dst .entry)) at (replicate n x) ⌝ }
+{
+    let mut i = 0;
+    while i < n {
+        dst[at + i] = x;
         i += 1;
     }
 }
@@ -60,4 +73,28 @@ pub fn any(s: &[bool]) -> bool
         i += 1;
     }
     false
+}
+
+fn pair(high: u8, low: u8) -> u16
+    ensures { λ r. ⌜ r ≡ high * 256 + low ⌝ }
+{
+    high as u16 * 256 + low as u16
+}
+
+// internal: a caller has tested the length.
+// The big-endian number of two octets at index at.
+pub fn two(s: &[u8], at: usize) -> u16
+    requires { ⌜ at + 2 ≤ length (now s) ⌝ }
+    ensures { λ r. ⌜ r ≡ twoAt (now (s .entry)) at ⌝ }
+{
+    pair(s[at], s[at + 1])
+}
+
+// internal: a caller has tested the length.
+// The big-endian number of four octets at index at.
+pub fn four(s: &[u8], at: usize) -> u32
+    requires { ⌜ at + 4 ≤ length (now s) ⌝ }
+    ensures { λ r. ⌜ r ≡ fourAt (now (s .entry)) at ⌝ }
+{
+    two(s, at) as u32 * 65536 + two(s, at + 2) as u32
 }

@@ -1,7 +1,7 @@
 //! Scripts made from a seed: two boxes hear the same talks, lose packets, hear
 //! some twice, late or damaged, and pour and join what they hold.
 
-mod changes;
+pub mod changes;
 mod talk;
 
 use super::Rng;

@@ -1,0 +1,383 @@
+-- No recording of a capture is larger than `largest`: what a run has recorded, and what its held group would pour, is at most 300 octets for each
+-- packet offered, and 1,000 lost frames more for each once a group was poured. Assumes nothing.
+use Prim.Native.Nat.{ℕ, zero, suc, _+_, _*_, _≤_, _<_}
+use mathlib.Core.Bool.{Bool, true, false, cond, _&&_}
+use mathlib.Core.Path.{_≡_, refl, sym, ap, ap₂, _∙_}
+use mathlib.Core.List.{List, [], _∷_, _++_, append-nil}
+use mathlib.Core.Logic.{⊎-elim}
+use native.Mathlib.Nat.{add-zero, zero-add, le-refl, mul-le-mul, suc-mul, eq-or-lt-of-le, le-of-suc-le-suc}
+use native.Mathlib.Omega.{arith}
+use lib.ListN.{length, take, drop, getD, replicate, length-append, length-take, length-replicate, getD-replicate}
+use lib.Seq.{getD-take, getD-drop, getD-set-other}
+use lib.Dec.{T, eqb, leb, ltb}
+use borrow.Author.Tests.{eqb-true, eqb-false, ltb-false, leb-true}
+use Rattle.octets.specs.Octets.{sameOctets}
+use Rattle.octets.proofs.Logic.{apart, both-true}
+use Rattle.octets.proofs.OctetLaws.{same-true}
+use Rattle.frame.specs.Table.{Vocoder, size, within, erases, erasure}
+use Rattle.frame.proofs.TableLaws.{size-within, erasure-listed}
+use Rattle.frame.specs.Outputs.{Made}
+use Rattle.frame.specs.Outputs as outputs
+use Rattle.recording.specs.Entries.{entriesOf}
+use Rattle.holding.specs.Group.{region, erased, samePackets, nothing, isNothing, heldAt, packetOf, withPacket, begun, holds, rightAt}
+use Rattle.holding.specs.declared.Holding.{Holding}
+use Rattle.holding.specs.declared.Packet.{Packet}
+use Rattle.holding.proofs.GroupLaws.{all-at, packet-lost, sound-has, holds-sound, nothing-is, sound-something}
+use Rattle.pouring.specs.Pouring.{frameIn, row, rows, inTime, poured}
+use Rattle.frame.specs.Places.{upTo}
+use Rattle.pouring.proofs.PourLaws.{entries-append}
+use Rattle.frame.specs.declared.Refusal.{Refusal}
+use Rattle.frame.specs.declared.Refusal.the-variants.{AnotherSource, ContradictsGroup, LaterGroup, EarlierGroup, PacketDiffers, TooFarAhead, NotApplicable}
+use Rattle.payload.specs.Payload.{Reading, packet, readAs}
+use Rattle.payload.specs.Payload as payload
+use Rattle.holding.specs.Bases.{minus}
+use Rattle.session.specs.Session.{formRight, lastRight, groupRight, isOpen, refuse, accept, withGroup, sameBase, atDistance, inGroup, begins, afterLast, noGroup, placed, arrival, judged, offered, pourMade, ended, never, fresh, vacant}
+use Rattle.session.specs.declared.Session.{Session}
+use Rattle.session.specs.declared.Arrival.{Arrival}
+use Rattle.session.specs.declared.Offered.{Offered}
+use Rattle.capture.specs.Table.{Heard}
+use Rattle.capture.specs.Run.{Step, andThen, firstSession, offeredTo, takenOf, offering, pouredOf, pouring, isTwelve, stepOf, runOf, lostIn}
+
+-- how many of the first m packets are held
+abbrev heldBelow : Holding → ℕ → ℕ
+heldBelow h zero = 0
+heldBelow h (suc m) = heldBelow h m + cond (heldAt h m) 1 0
+
+-- ---- the entries of a group take 80 octets, and 220 more for each packet held
+module _ (v : Vocoder) (w : T (within 22 v)) (z : T (erases v)) (h : Holding) (right : (n : ℕ) → n < 8 → rightAt v h n ≡ true) where
+  lost-mark : (n k : ℕ) → n < 8 → k < 10 → heldAt h n ≡ false → getD (h .marks) (10 * n + k) 0 ≡ erasure
+  unfolding rightAt samePackets packetOf erased region
+  lost-mark n k p q e =
+      let s : samePackets (packetOf h n) erased ≡ true = packet-lost v (h .l) (h .b) n (heldAt h n) (packetOf h n) e ∙ right n p in
+      let m = same-true (take 10 (drop (10 * n) (h .marks))) (replicate 10 erasure) (both-true (sameOctets (take 10 (drop (10 * n) (h .marks))) (replicate 10 erasure)) _ s .0) in
+      sym (getD-drop (10 * n) (h .marks) k 0) ∙ sym (getD-take 10 (drop (10 * n) (h .marks)) k 0 q) ∙ ap (λ (l : List ℕ). getD l k 0) m ∙ getD-replicate 10 k erasure 0 q
+
+  body-small : (n k : ℕ) → n < 8 → k < 10 → length (frameIn v (h .marks) (h .room) n k .body) ≤ cond (heldAt h n) 22 0
+  unfolding frameIn
+  body-small n k p q = go (heldAt h n) refl
+    where
+      t : ℕ
+      t = getD (h .marks) (10 * n + k) 0
+
+      go : (b : Bool) → heldAt h n ≡ b → length (take (size v (getD (h .marks) (10 * n + k) 0)) (drop (220 * n + 22 * k) (h .room))) ≤ cond b 22 0
+      go true e = simp length-take (omega (arith, size-within 22 v (getD (h .marks) (10 * n + k) 0) w))
+      go false e =
+          let y : size v (getD (h .marks) (10 * n + k) 0) ≡ 0 = ap (size v) (lost-mark n k p q e) ∙ erasure-listed v z .1 in
+          simp length-take (omega arith)
+
+  row-small : (k m : ℕ) → m ≤ 8 → k < 10 → length (entriesOf (row v (h .marks) (h .room) k m)) ≤ m + 22 * heldBelow h m
+  unfolding row upTo
+  row-small k zero p q = omega arith
+  row-small k (suc m) p q =
+      let f = frameIn v (h .marks) (h .room) m k in
+      let i = row-small k m (omega arith) q in
+      let e : length (entriesOf (row v (h .marks) (h .room) k m ++ (f ∷ []))) ≡ length (entriesOf (row v (h .marks) (h .room) k m)) + length (entriesOf (f ∷ [])) =
+      ap length (entries-append (row v (h .marks) (h .room) k m) (f ∷ [])) ∙ length-append (entriesOf (row v (h .marks) (h .room) k m)) (entriesOf (f ∷ [])) in
+      let b : length (f .body ++ []) ≡ length (f .body) = ap length (append-nil (f .body)) in
+      let s : length (f .body) ≤ cond (heldAt h m) 22 0 = body-small m k p q in
+      let c : cond (heldAt h m) 22 0 ≡ 22 * cond (heldAt h m) 1 0 = times (heldAt h m) in
+      omega arith
+    where
+      times : (t : Bool) → cond t 22 0 ≡ 22 * cond t 1 0
+      times true = refl
+      times false = refl
+
+  rows-small : (m b : ℕ) → m ≤ 8 → b ≤ 10 → length (entriesOf (rows v (h .marks) (h .room) m b)) ≤ b * (m + 22 * heldBelow h m)
+  unfolding rows
+  rows-small m zero p q = omega arith
+  rows-small m (suc b) p q =
+      let i = rows-small m b p (omega arith) in
+      let j = row-small b m p q in
+      let e : length (entriesOf (rows v (h .marks) (h .room) m b ++ row v (h .marks) (h .room) b m)) ≡ length (entriesOf (rows v (h .marks) (h .room) m b)) + length (entriesOf (row v (h .marks) (h .room) b m)) =
+      ap length (entries-append (rows v (h .marks) (h .room) m b) (row v (h .marks) (h .room) b m)) ∙ length-append (entriesOf (rows v (h .marks) (h .room) m b)) (entriesOf (row v (h .marks) (h .room) b m)) in
+      omega (arith, suc-mul b (m + 22 * heldBelow h m))
+
+held-grows : (h : Holding) (m n : ℕ) → m ≤ n → heldBelow h m ≤ heldBelow h n
+held-grows h m zero p = let e : m ≡ 0 = omega arith in rw e (le-refl 0)
+held-grows h m (suc n) p =
+    ⊎-elim (λ (e : m ≡ suc n). rw e (le-refl _)) (λ (q : m < suc n). omega (arith, held-grows h m n (le-of-suc-le-suc q))) (eq-or-lt-of-le p)
+
+pour-small : (v : Vocoder) → T (within 22 v) → T (erases v) → (h : Holding) → holds v h ≡ true → length (entriesOf (inTime v h)) ≤ 80 + 220 * heldBelow h 8
+pour-small v w z h e =
+    let s = sound-has v h (holds-sound v h e .0) in
+    let low : h .l + 1 ≤ 8 = omega (arith, s .low) in
+    let i = rows-small v w z h (λ n p. all-at (rightAt v h) 8 n (s .packets) p) (h .l + 1) (h .b) low (s .few) in
+    let g = held-grows h (h .l + 1) 8 low in
+    let wide : h .l + 1 + 22 * heldBelow h (h .l + 1) ≤ 8 + 22 * heldBelow h 8 = omega arith in
+    let m = mul-le-mul {n₁ = h .b} {m₁ = h .l + 1 + 22 * heldBelow h (h .l + 1)} {n₂ = 10} {m₂ = 8 + 22 * heldBelow h 8} (s .few) wide in
+    omega (arith, i, m)
+
+held-few : (h : Holding) (m : ℕ) → heldBelow h m ≤ m
+held-few h zero = omega arith
+held-few h (suc m) = let i = held-few h m in omega (arith, i, one (heldAt h m))
+  where
+    one : (t : Bool) → cond t 1 0 ≤ 1
+    one true = omega arith
+    one false = omega arith
+
+-- a packet put in is one more; of a group just begun none is held
+module _ (h : Holding) (n : ℕ) (p : Packet) where
+  with-other : (m : ℕ) → (m ≡ n → ⊥) → heldAt (withPacket h n p) m ≡ heldAt h m
+  unfolding heldAt withPacket
+  with-other m d = getD-set-other (h .held) n m true false d
+
+  with-below : (m : ℕ) → m ≤ n → heldBelow (withPacket h n p) m ≡ heldBelow h m
+  with-below zero q = refl
+  with-below (suc m) q = ap₂ (λ (i : ℕ) (t : Bool). i + cond t 1 0) (with-below m (omega arith)) (with-other m (λ (e : m ≡ n). absurd (omega arith)))
+
+  with-small : (m : ℕ) → heldBelow (withPacket h n p) m ≤ heldBelow h m + 1
+  with-small zero = omega arith
+  with-small (suc m) = go (with-small m) (eqb m n) refl
+    where
+      one : (t : Bool) → cond t 1 0 ≤ 1
+      one true = omega arith
+      one false = omega arith
+
+      go : heldBelow (withPacket h n p) m ≤ heldBelow h m + 1 → (b : Bool) → eqb m n ≡ b → heldBelow (withPacket h n p) (suc m) ≤ heldBelow h (suc m) + 1
+      go j true e =
+          let q : m ≡ n = eqb-true m n e in
+          let i = with-below m (omega arith) in
+          omega (arith, i, one (heldAt (withPacket h n p) m))
+      go j false e =
+          let q = ap {B = ℕ} (λ (t : Bool). cond t 1 0) (with-other m (eqb-false m n e)) in
+          omega (arith, j, q)
+
+begun-none : (source sequence timestamp l b m : ℕ) → m ≤ 8 → heldBelow (begun source sequence timestamp l b) m ≡ 0
+unfolding heldAt begun
+begun-none source sequence timestamp l b zero q = refl
+begun-none source sequence timestamp l b (suc m) q =
+    let e = ap {B = ℕ} (λ (t : Bool). cond t 1 0) (getD-replicate 8 m false false q) in
+    omega (arith, begun-none source sequence timestamp l b m (omega arith), e)
+
+-- ---- what a session's group would pour, and the most lost frames that an offer reports
+abbrev weight : Session → ℕ
+weight s = cond (isNothing (s .group)) 0 (80 + 220 * heldBelow (s .group) 8)
+
+abbrev before : Session → ℕ
+before s = cond (s .poured) 1000 0
+
+weight-most : (s : Session) → weight s ≤ 80 + 220 * heldBelow (s .group) 8
+weight-most s = go (isNothing (s .group))
+  where
+    go : (b : Bool) → cond b 0 (80 + 220 * heldBelow (s .group) 8) ≤ 80 + 220 * heldBelow (s .group) 8
+    go true = omega arith
+    go false = le-refl _
+
+-- ---- an offer brings 300 octets at most, and the lost frames before it
+data Brings (s : Session) (o : Offered) : Type 0 where
+  nothing-new : (r : Refusal) → o ≡ refuse s r → Brings s o
+  more : (t : Session) (lost : ℕ) → o ≡ accept t lost → t .poured ≡ s .poured → lost ≤ 1000 → lost + weight t ≤ weight s + 300 + before s → Brings s o
+
+choose : (s : Session) (b : Bool) (o o′ : Offered) → (b ≡ true → Brings s o) → (b ≡ false → Brings s o′) → Brings s (cond b o o′)
+choose s true o o′ f g = f refl
+choose s false o o′ f g = g refl
+
+begins-brings : (s : Session) (a : Arrival) (lost : ℕ) → lost ≤ before s → lost ≤ 1000 → Brings s (begins s a lost)
+unfolding begins withGroup
+begins-brings s a lost h k =
+    let none = begun (s .source) (a .sequence) (a .timestamp) (a .l) (a .b) in
+    let t = withGroup s (withPacket none (a .n) (a .packet)) in
+    let e = begun-none (s .source) (a .sequence) (a .timestamp) (a .l) (a .b) 8 (le-refl 8) in
+    more t lost refl refl k (omega (arith, weight-most t, with-small none (a .n) (a .packet) 8, e))
+
+base-brings : (s : Session) (a : Arrival) → isNothing (s .group) ≡ false → Brings s (sameBase s a)
+unfolding sameBase withGroup
+base-brings s a q =
+    let g = s .group in
+    let t = withGroup s (withPacket g (a .n) (a .packet)) in
+    let same = cond (samePackets (packetOf g (a .n)) (a .packet)) (accept s 0) (refuse s PacketDiffers) in
+    let held : weight s ≡ 80 + 220 * heldBelow g 8 = simp q in
+    choose s (eqb (a .l) (g .l) && (eqb (a .b) (g .b) && eqb (a .timestamp) (g .timestamp))) (cond (heldAt g (a .n)) same (accept t 0)) (refuse s ContradictsGroup)
+    (λ _. choose s (heldAt g (a .n)) same (accept t 0)
+    (λ _. choose s (samePackets (packetOf g (a .n)) (a .packet)) (accept s 0) (refuse s PacketDiffers)
+    (λ _. more s 0 refl refl (omega arith) (omega arith)) (λ _. nothing-new PacketDiffers refl))
+    (λ _. more t 0 refl refl (omega arith) (omega (arith, weight-most t, with-small g (a .n) (a .packet) 8, held))))
+    (λ _. nothing-new ContradictsGroup refl)
+
+distance-brings : (s : Session) (a : Arrival) (d : ℕ) → isNothing (s .group) ≡ false → Brings s (atDistance s a d)
+unfolding atDistance
+distance-brings s a d q =
+    let far = cond (leb d 32767) (refuse s LaterGroup) (refuse s EarlierGroup) in
+    choose s (eqb d 0) (sameBase s a) (cond (leb d (s .group .l)) (refuse s ContradictsGroup) far) (λ _. base-brings s a q)
+    (λ _. choose s (leb d (s .group .l)) (refuse s ContradictsGroup) far (λ _. nothing-new ContradictsGroup refl)
+    (λ _. choose s (leb d 32767) (refuse s LaterGroup) (refuse s EarlierGroup) (λ _. nothing-new LaterGroup refl) (λ _. nothing-new EarlierGroup refl)))
+
+last-brings : (s : Session) (a : Arrival) (e : ℕ) → s .poured ≡ true → s .«last_b» ≤ 10 → Brings s (afterLast s a e)
+unfolding afterLast
+last-brings s a e p l =
+    let m = e * s .«last_b» in
+    choose s (leb 32768 e) (refuse s EarlierGroup) (cond (ltb 100 e) (refuse s TooFarAhead) (begins s a m)) (λ _. nothing-new EarlierGroup refl)
+    (λ _. choose s (ltb 100 e) (refuse s TooFarAhead) (begins s a m) (λ _. nothing-new TooFarAhead refl)
+    (λ q.
+    let small = mul-le-mul {n₁ = e} {m₁ = s .«last_b»} {n₂ = 100} {m₂ = 10} (ltb-false 100 e q) l in
+    let b : before s ≡ 1000 = simp p in
+    begins-brings s a m (omega arith) (omega arith)))
+
+placed-brings : (s : Session) (a : Arrival) → lastRight s ≡ true → Brings s (placed s a)
+unfolding placed noGroup inGroup lastRight
+placed-brings s a r =
+    choose s (isNothing (s .group)) (cond (s .poured) (afterLast s a (minus 16 (a .sequence) (s .«last_sequence» + (s .«last_l» + 1)))) (begins s a 0)) (atDistance s a (minus 16 (a .sequence) (s .group .sequence)))
+    (λ _. choose s (s .poured) (afterLast s a (minus 16 (a .sequence) (s .«last_sequence» + (s .«last_l» + 1)))) (begins s a 0)
+    (λ p.
+    let x : (leb (s .«last_l») 7 && (leb 1 (s .«last_b») && leb (s .«last_b») 10)) ≡ true = sym (ap (λ (t : Bool). cond t (leb (s .«last_l») 7 && (leb 1 (s .«last_b») && leb (s .«last_b») 10)) true) p) ∙ r in
+    let y = both-true (leb (s .«last_l») 7) (leb 1 (s .«last_b») && leb (s .«last_b») 10) x .1 in
+    last-brings s a (minus 16 (a .sequence) (s .«last_sequence» + (s .«last_l» + 1))) p (leb-true _ _ (both-true (leb 1 (s .«last_b»)) (leb (s .«last_b») 10) y .1)))
+    (λ _. begins-brings s a 0 (omega arith) (omega arith)))
+    (λ q. distance-brings s a (minus 16 (a .sequence) (s .group .sequence)) q)
+
+judged-brings : (s : Session) (q t : ℕ) (w : Reading) → lastRight s ≡ true → Brings s (judged s q t w)
+unfolding judged arrival
+judged-brings s q t (payload.refused r) l = nothing-new r refl
+judged-brings s q t (packet l n d fs) x = placed-brings s (arrival q t l n fs) x
+
+offer-brings : (v : Vocoder) (s : Session) (h : Heard) → Brings s (offeredTo v s h)
+unfolding offeredTo offered isOpen
+offer-brings v s h =
+    let w = readAs v (s .form) (h .payload) in
+    choose s (s .«open» && (formRight (s .form) && (lastRight s && groupRight v s))) (cond (eqb (h .source) (s .source)) (judged s (h .sequence) (h .timestamp) w) (refuse s AnotherSource)) (refuse s NotApplicable)
+    (λ o.
+    let x = both-true (s .«open») (formRight (s .form) && (lastRight s && groupRight v s)) o in
+    let y = both-true (formRight (s .form)) (lastRight s && groupRight v s) (x .1) in
+    let z = both-true (lastRight s) (groupRight v s) (y .1) in
+    choose s (eqb (h .source) (s .source)) (judged s (h .sequence) (h .timestamp) w) (refuse s AnotherSource) (λ _. judged-brings s (h .sequence) (h .timestamp) w (z .0)) (λ _. nothing-new AnotherSource refl))
+    (λ _. nothing-new NotApplicable refl)
+
+-- so the lost frames of an answer are few
+pub lost-few : (v : Vocoder) (s : Session) (h : Heard) → lostIn (offeredTo v s h .answer) ≤ 1000
+unfolding lostIn refuse accept
+lost-few v s h = go (offeredTo v s h) (offer-brings v s h)
+  where
+    go : (o : Offered) → Brings s o → lostIn (o .answer) ≤ 1000
+    go o (nothing-new r e) = let q : lostIn (o .answer) ≡ 0 = ap (λ (x : Offered). lostIn (x .answer)) e in omega arith
+    go o (more t lost e p l w) = let q : lostIn (o .answer) ≡ lost = ap (λ (x : Offered). lostIn (x .answer)) e in omega arith
+
+-- ---- an offer in a run
+record Brought (s : Session) (a : Step) : Type 0 where
+  same : a .session .poured ≡ s .poured
+  small : length (a .octets) + weight (a .session) ≤ weight s + 300 + before s
+
+offering-brought : (v : Vocoder) (s : Session) (h : Heard) → Brought s (offering v s h)
+unfolding offering takenOf refuse accept
+offering-brought v s h = go (offeredTo v s h) (offer-brings v s h)
+  where
+    go : (o : Offered) → Brings s o → Brought s (takenOf s (o .session) (o .answer))
+    go o (nothing-new r e) = rw e (record { same = refl; small = omega arith })
+    go o (more t lost e p l w) = rw e (record { same = p; small = omega (arith, w, length-replicate lost erasure) })
+
+-- ---- pouring in a run
+data Pours (s : Session) (a : Step) : Type 0 where
+  none : a ≡ record { session = s; octets = [] } → Pours s a
+  some : a .session ≡ ended s → 80 ≤ weight s → length (a .octets) ≤ weight s → Pours s a
+
+-- ---- a run of i packets that has recorded len octets
+abbrev cap : Bool → ℕ → ℕ
+cap poured i = cond poured (1300 * i) (300 * i)
+
+abbrev Small : Session → ℕ → ℕ → Type 0
+Small s len i = len + weight s + before s ≤ cap (s .poured) i
+
+then-small : (s : Session) (len i : ℕ) (a : Step) → Small s len i → Brought s a → Small (a .session) (len + length (a .octets)) (i + 1)
+then-small s len i a h b = go (s .poured) (a .session .poured) (b .same) h (b .small)
+  where
+    go : (p q : Bool) → q ≡ p → len + weight s + cond p 1000 0 ≤ cap p i → length (a .octets) + weight (a .session) ≤ weight s + 300 + cond p 1000 0 → len + length (a .octets) + weight (a .session) + cond q 1000 0 ≤ cap q (i + 1)
+    go true true e x y = omega arith
+    go false false e x y = omega arith
+    go true false e x y = apart (cc)
+    go false true e x y = apart (cc)
+
+module _ (v : Vocoder) (w : T (within 22 v)) (z : T (erases v)) where
+  pour-ends : (s : Session) → Pours s (pouring v s)
+  unfolding pouring pouredOf pourMade poured
+  pour-ends s = go (isOpen v s) (holds v (s .group)) refl
+    where
+      go : (o b : Bool) → holds v (s .group) ≡ b → Pours s (pouredOf s (cond o (cond b (outputs.octets (entriesOf (inTime v (s .group)))) (outputs.refused NotApplicable)) (outputs.refused NotApplicable)))
+      go false b e = none refl
+      go true false e = none refl
+      go true true e =
+          let x : weight s ≡ 80 + 220 * heldBelow (s .group) 8 = simp (sound-something v (s .group) (sound-has v (s .group) (holds-sound v (s .group) e .0))) in
+          some refl (omega arith) (omega (arith, x, pour-small v w z (s .group) e))
+
+  -- a group that is poured has at most 1,840 octets
+  pub pour-most : (s : Session) (y : List ℕ) → pourMade v s ≡ outputs.octets y → length y ≤ 1840
+  unfolding pourMade poured
+  pour-most s y q = go (isOpen v s) (holds v (s .group)) refl q
+    where
+      go : (o b : Bool) → holds v (s .group) ≡ b → cond o (cond b (outputs.octets (entriesOf (inTime v (s .group)))) (outputs.refused NotApplicable)) (outputs.refused NotApplicable) ≡ outputs.octets y → length y ≤ 1840
+      go false b e x = apart (cc)
+      go true false e x = apart (cc)
+      go true true e x =
+          let f : entriesOf (inTime v (s .group)) ≡ y = cc in
+          omega (arith, pour-small v w z (s .group) e, held-few (s .group) 8, ap length f)
+
+  pub pouring-few : (s : Session) → length (pouring v s .octets) ≤ 1840
+  unfolding pouring pouredOf
+  pouring-few s = go (pourMade v s) refl
+    where
+      go : (m : Made) → pourMade v s ≡ m → length (pouredOf s m .octets) ≤ 1840
+      go (outputs.octets y) e = pour-most s y e
+      go (outputs.refused r) e = omega arith
+
+  pour-keeps : (s : Session) (len i : ℕ) → Small s len i → Small (pouring v s .session) (len + length (pouring v s .octets)) i
+  unfolding ended
+  pour-keeps s len i h = go (pouring v s) (pour-ends s)
+    where
+      first : (p : Bool) → len + weight s + cond p 1000 0 ≤ cap p i → 80 ≤ weight s → len + weight s + 1000 ≤ 1300 * i
+      first true x y = x
+      first false x y = omega arith
+
+      go : (a : Step) → Pours s a → Small (a .session) (len + length (a .octets)) i
+      go a (none e) = let q : Small s (len + 0) i = omega arith in rw e q
+      go a (some e x y) =
+          let q : weight (ended s) ≡ 0 = simp nothing-is in
+          let k = first (s .poured) h x in
+          let r : Small (ended s) (len + length (a .octets)) i = omega arith in
+          rw e r
+
+  step-small : (s : Session) (h : Heard) (len i : ℕ) → Small s len i → Small (stepOf v s h .session) (len + length (stepOf v s h .octets)) (i + 1)
+  unfolding stepOf andThen
+  step-small s h len i x = go (isTwelve (offeredTo v s h .answer))
+    where
+      go : (b : Bool) → Small (cond b (andThen (pouring v s) (λ t. offering v t h)) (offering v s h) .session) (len + length (cond b (andThen (pouring v s) (λ t. offering v t h)) (offering v s h) .octets)) (i + 1)
+      go false = then-small s len i (offering v s h) x (offering-brought v s h)
+      go true =
+          let t = pouring v s .session in
+          let y = then-small t (len + length (pouring v s .octets)) i (offering v t h) (pour-keeps s len i x) (offering-brought v t h) in
+          let e : len + length (pouring v s .octets ++ offering v t h .octets) ≡ len + length (pouring v s .octets) + length (offering v t h .octets) = omega (arith, length-append (pouring v s .octets) (offering v t h .octets)) in
+          rw e y
+
+  run-small : (s : Session) (hs : List Heard) (len i : ℕ) → Small s len i → Small (runOf v s hs .session) (len + length (runOf v s hs .octets)) (i + length hs)
+  unfolding runOf andThen
+  run-small s [] len i x = rw (add-zero len, add-zero i) x
+  run-small s (h ∷ hs) len i x =
+      let a = stepOf v s h in
+      let y = run-small (a .session) hs (len + length (a .octets)) (i + 1) (step-small s h len i x) in
+      let e : len + length (a .octets ++ runOf v (a .session) hs .octets) ≡ len + length (a .octets) + length (runOf v (a .session) hs .octets) = omega (arith, length-append (a .octets) (runOf v (a .session) hs .octets)) in
+      let f : i + length (h ∷ hs) ≡ i + 1 + length hs = omega arith in
+      rw (e, f) y
+
+  first-small : (hs : List Heard) → Small (firstSession hs) 0 0
+  unfolding firstSession never fresh vacant
+  first-small [] = simp nothing-is (omega arith)
+  first-small (h ∷ hs) = simp nothing-is (omega arith)
+
+  few-octets : (s : Session) (len n : ℕ) → n ≤ 256 → Small s len n → len ≤ 256 * 300 + 255 * 1000
+  few-octets s len n h x = go (s .poured) x
+    where
+      go : (p : Bool) → len + weight s + cond p 1000 0 ≤ cap p n → len ≤ 256 * 300 + 255 * 1000
+      go true x = omega arith
+      go false x = omega arith
+
+  -- what a run over at most 256 packets has recorded, before and after the last pouring
+  module _ (hs ks : List Heard) (few : length ks ≤ 256) where
+    from-first : Small (runOf v (firstSession hs) ks .session) (length (runOf v (firstSession hs) ks .octets)) (length ks)
+    from-first = rw (← zero-add (length (runOf v (firstSession hs) ks .octets)), ← zero-add (length ks)) (run-small (firstSession hs) ks 0 0 (first-small hs))
+
+    pub run-few : length (runOf v (firstSession hs) ks .octets) ≤ 256 * 300 + 255 * 1000
+    run-few = few-octets (runOf v (firstSession hs) ks .session) _ (length ks) few from-first
+
+    pub all-few : length (andThen (runOf v (firstSession hs) ks) (pouring v) .octets) ≤ 256 * 300 + 255 * 1000
+    unfolding andThen
+    all-few =
+        let a = runOf v (firstSession hs) ks in
+        let x = few-octets (pouring v (a .session) .session) _ (length ks) few (pour-keeps (a .session) (length (a .octets)) (length ks) from-first) in
+        omega (arith, x, length-append (a .octets) (pouring v (a .session) .octets))

@@ -1,0 +1,3 @@
+pub mod TableLaws
+pub mod Largest
+pub mod RunLaws

@@ -1,0 +1,305 @@
+-- The run over a capture, step by step. Assumes nothing.
+use Prim.Native.Nat.{ℕ, zero, suc, _+_, _-_, _*_, _≤_, _<_}
+use mathlib.Core.Bool.{Bool, true, false}
+use mathlib.Core.Path.{_≡_, refl, sym, ap, ap₂, _∙_}
+use mathlib.Core.List.{List, [], _∷_, _++_, append-assoc, append-nil}
+use native.Mathlib.Nat.{le-refl, add-zero, zero-add, add-sub-cancel-left}
+use native.Mathlib.Numerals.{add-one}
+use native.Mathlib.Omega.{arith}
+use lib.ListN.{length, take, drop, replicate, length-append, length-replicate}
+use lib.Seq.{take-at}
+use lib.Dec.{T, eqb, leb}
+use borrow.Author.Tests.{le-leb, lt-leb}
+use Rattle.octets.specs.Octets.{over, twoAt, fourAt}
+use Rattle.octets.proofs.Logic.{apart}
+use Rattle.octets.proofs.OctetLaws.{over-append, over-nothing, length-over}
+use Rattle.frame.specs.Table.{Vocoder, within, erases, erasure}
+use Rattle.frame.specs.Places.{upTo}
+use Rattle.frame.specs.Answers.{numberOf}
+use Rattle.frame.specs.Outputs.{Made, octets, refused, writtenOf, outAfter, Writes}
+use Rattle.frame.specs.declared.Refusal.{Refusal}
+use Rattle.frame.specs.declared.Refusal.the-variants.{NoRoom}
+use Rattle.frame.specs.declared.Written.{Written}
+use Rattle.frame.specs.declared.Written.the-variants as written
+use Rattle.recording.specs.Entries.{entries}
+use Rattle.recording.specs.Recording.{recordingMade}
+use Rattle.session.specs.Session.{never, fresh, formRight, opening, offered, pourMade, ended, afterPour}
+use Rattle.session.specs.declared.Session.{Session}
+use Rattle.session.specs.declared.Offered.{Offered}
+use Rattle.session.specs.declared.Started.{Started}
+use Rattle.frame.specs.declared.Form.the-variants.{Interleaved}
+use Rattle.session.specs.declared.Taken.{Taken}
+use Rattle.session.specs.declared.Taken.the-variants.{Accepted, Refused}
+use Rattle.frame.proofs.PlaceLaws.{length-upTo}
+use Rattle.capture.specs.Table.{Heard, countOf, startAt, heardAt, packetsIn, good}
+use Rattle.capture.specs.Run.{Step, andThen, captureForm, firstSession, offeredTo, takenOf, offering, pouredOf, pouring, isTwelve, lostIn, stepOf, runOf, recordedOf, recordingOf, largest, Put, Does, recorded, outputOf}
+use Rattle.capture.specs.declared.Run.{Run}
+use Rattle.capture.specs.declared.Outcome.the-variants as outcome
+use Rattle.capture.proofs.Largest.{pour-most, lost-few, run-few, all-few}
+use Rattle.capture.proofs.TableLaws.{good-is}
+
+-- ---- a run over one list and then another, and over one packet more
+pub run-append : (v : Vocoder) (s : Session) (hs ks : List Heard) → runOf v s (hs ++ ks) ≡ andThen (runOf v s hs) (λ t. runOf v t ks)
+unfolding runOf andThen
+run-append v s [] ks = refl
+run-append v s (h ∷ hs) ks =
+    let a = stepOf v s h in
+    let x = runOf v (a .session) hs in
+    ap (λ (b : Step). record { session = b .session; octets = a .octets ++ b .octets }) (run-append v (a .session) hs ks)
+    ∙ ap (λ (o : List ℕ). record { session = runOf v (x .session) ks .session; octets = o }) (sym (append-assoc (a .octets) (x .octets) (runOf v (x .session) ks .octets)))
+
+one-step : (v : Vocoder) (s : Session) (h : Heard) → runOf v s (h ∷ []) ≡ stepOf v s h
+unfolding runOf andThen
+one-step v s h = ap (λ (o : List ℕ). record { session = stepOf v s h .session; octets = o }) (append-nil (stepOf v s h .octets))
+
+upTo-more : (f : ℕ → Heard) (i : ℕ) → upTo f (i + 1) ≡ upTo f i ++ (f i ∷ [])
+unfolding upTo
+upTo-more f i = rw (add-one i)
+
+pub run-more : (v : Vocoder) (s : Session) (f : ℕ → Heard) (i : ℕ) → runOf v s (upTo f (i + 1)) ≡ andThen (runOf v s (upTo f i)) (λ t. stepOf v t (f i))
+unfolding andThen
+run-more v s f i =
+    let a = runOf v s (upTo f i) in
+    ap (runOf v s) (upTo-more f i) ∙ run-append v s (upTo f i) (f i ∷ [])
+    ∙ ap (λ (b : Step). record { session = b .session; octets = a .octets ++ b .octets }) (one-step v (a .session) (f i))
+
+-- ---- the first session
+pub first-none : (c : List ℕ) (n : ℕ) → n ≡ countOf c → n ≡ 0 → never ≡ firstSession (packetsIn c)
+unfolding packetsIn firstSession upTo
+first-none c n e z = let q : countOf c ≡ 0 = sym e ∙ z in rw q
+
+first-of : (f : ℕ → Heard) (n : ℕ) → fresh (f 0 .source) captureForm ≡ firstSession (upTo f (suc n))
+unfolding firstSession upTo
+first-of f zero = refl
+first-of f (suc n) = first-of f n ∙ behind (upTo f (suc n)) (λ (e : upTo f (suc n) ≡ []). empty f n e)
+  where
+    empty : (f : ℕ → Heard) (n : ℕ) → upTo f (suc n) ≡ [] → ⊥
+    empty f n e = absurd (let l = ap length e in omega (arith, length-append (upTo f n) (f n ∷ [])))
+
+    behind : (hs : List Heard) → (hs ≡ [] → ⊥) → firstSession hs ≡ firstSession (hs ++ (f (suc n) ∷ []))
+    behind [] h = absurd (h refl)
+    behind (x ∷ hs) h = refl
+
+pub first-some : (c : List ℕ) (n : ℕ) → n ≡ countOf c → (n ≡ 0 → ⊥) → fresh (heardAt c 0 .source) captureForm ≡ firstSession (packetsIn c)
+unfolding packetsIn
+first-some c n e z = go (countOf c) (λ (q : countOf c ≡ 0). z (e ∙ q))
+  where
+    go : (m : ℕ) → (m ≡ 0 → ⊥) → fresh (heardAt c 0 .source) captureForm ≡ firstSession (upTo (heardAt c) m)
+    go zero h = absurd (h refl)
+    go (suc m) h = first-of (heardAt c) m
+
+pub first-opened : (c : List ℕ) (n x : ℕ) (s : Session) (t : Started) → n ≡ countOf c → (n ≡ 0 → ⊥) → x ≡ fourAt c 2 → t ≡ opening s x (Interleaved (record { «max_l» = 7; «max_b» = 10 })) → t .session ≡ firstSession (packetsIn c)
+unfolding heardAt opening formRight captureForm
+first-opened c n x s t e z y q = ap (λ (o : Started). o .session) q ∙ ap (λ (i : ℕ). fresh i captureForm) y ∙ first-some c n e z
+
+-- ---- a packet of the capture, offered
+pub offer-heard : (v : Vocoder) (s : Session) (c : List ℕ) (i source sequence timestamp start size : ℕ) (r : Offered) → source ≡ fourAt c (2 + 12 * i) → sequence ≡ twoAt c (2 + 12 * i + 4)
+    → timestamp ≡ fourAt c (2 + 12 * i + 6) → size ≡ twoAt c (2 + 12 * i + 10) → start ≡ startAt c i → r ≡ offered v s source sequence timestamp (take (start + size - start) (drop start c)) → r ≡ offeredTo v s (heardAt c i)
+unfolding heardAt offeredTo
+offer-heard v s c i source sequence timestamp start size r a b d e f q =
+    let p : take (start + size - start) (drop start c) ≡ take (twoAt c (2 + 12 * i + 10)) (drop (startAt c i) c) =
+    ap₂ (λ (n m : ℕ). take n (drop m c)) (add-sub-cancel-left start size ∙ e) f in
+    rw (← a, ← b, ← d, ← p) q
+
+-- ---- written where it fits
+pub put-nothing : (d : List ℕ) (at : ℕ) → Put d at [] d
+put-nothing d at h = over-nothing d at
+
+pub put-then : (d e f : List ℕ) (at : ℕ) (xs ys : List ℕ) → Put d at xs e → Put e (at + length xs) ys f → Put d at (xs ++ ys) f
+put-then d e f at xs ys p q h =
+    let n = length-append xs ys in
+    let a : e ≡ over d at xs = p (omega arith) in
+    let l : length e ≡ length d = ap length a ∙ length-over d at xs (omega arith) in
+    q (omega arith) ∙ ap (λ (o : List ℕ). over o (at + length xs) ys) a ∙ over-append d at xs ys (omega arith)
+
+-- ---- steps that are done
+pub does-then : (a g : Step) (f : Session → Step) (at : ℕ) (d e e′ : List ℕ) (r r′ : Run) → Does a at d r e → g ≡ f (a .session) → Does g (r .octets) e r′ e′ → Does (andThen a f) at d r′ e′
+unfolding andThen
+does-then a g f at d e e′ r r′ x q y =
+    let n : length (g .octets) ≡ length (f (a .session) .octets) = ap (λ (b : Step). length (b .octets)) q in
+    let ys = f (a .session) .octets in
+    let p : Put e (at + length (a .octets)) ys e′ = rw (← x .counted, ← q) (y .written) in
+    record {
+      session = y .session ∙ ap (λ (b : Step). b .session) q;
+      counted = y .counted ∙ omega (arith, x .counted, n, length-append (a .octets) ys);
+      written = put-then d e e′ at (a .octets) ys (x .written) p;
+    }
+
+pub does-as : (a b : Step) (at : ℕ) (d e : List ℕ) (r : Run) → a ≡ b → Does a at d r e → Does b at d r e
+does-as a b at d e r q x = rw (← q) x
+
+-- nothing is done
+pub does-nothing : (a : Step) (d : List ℕ) (r : Run) → a ≡ record { session = r .session; octets = [] } → Does a (r .octets) d r d
+does-nothing a d r q = rw q (record { session = refl; counted = sym (add-zero (r .octets)); written = put-nothing d (r .octets) })
+
+-- ---- an offer
+pub not-taken : (s t : Session) (a : Taken) (r : Refusal) → a ≡ Refused r → takenOf s t a ≡ record { session = s; octets = [] }
+unfolding takenOf
+not-taken s t a r q = ap (takenOf s t) q
+
+pub lost-is : (a : Taken) (lost : ℕ) → a ≡ Accepted lost → lostIn a ≡ lost
+unfolding lostIn
+lost-is a lost q = ap lostIn q
+
+pub taken : (s t : Session) (a : Taken) (lost at : ℕ) (d e : List ℕ) → a ≡ Accepted lost → Put d at (replicate lost erasure) e → Does (takenOf s t a) at d (record { session = t; octets = at + lost }) e
+unfolding takenOf
+taken s t a lost at d e q p = rw q (record { session = refl; counted = ap (λ (n : ℕ). at + n) (sym (length-replicate lost erasure)); written = p })
+
+pub twelve-no : (lost : ℕ) → false ≡ isTwelve (Accepted lost)
+unfolding isTwelve
+twelve-no lost = refl
+
+pub twelve-is : (r : Refusal) (n : ℕ) → n ≡ numberOf r → eqb n 12 ≡ isTwelve (Refused r)
+unfolding isTwelve
+twelve-is r n e = ap (λ (i : ℕ). eqb i 12) e
+
+pub step-later : (v : Vocoder) (s : Session) (h : Heard) (b : Bool) → b ≡ isTwelve (offeredTo v s h .answer) → b ≡ true → andThen (pouring v s) (λ t. offering v t h) ≡ stepOf v s h
+unfolding stepOf
+step-later v s h b e q = let z : isTwelve (offeredTo v s h .answer) ≡ true = sym e ∙ q in simp z
+
+pub step-once : (v : Vocoder) (s : Session) (h : Heard) (b : Bool) → b ≡ isTwelve (offeredTo v s h .answer) → b ≡ false → offering v s h ≡ stepOf v s h
+unfolding stepOf
+step-once v s h b e q = let z : isTwelve (offeredTo v s h .answer) ≡ false = sym e ∙ q in simp z
+
+pub offering-is : (v : Vocoder) (s : Session) (h : Heard) (o : Offered) → o ≡ offeredTo v s h → takenOf s (o .session) (o .answer) ≡ offering v s h
+unfolding offering
+offering-is v s h o e = ap (λ (x : Offered). takenOf s (x .session) (x .answer)) e
+
+-- ---- a step: once, or on 12 a second time after pouring
+module _ (v : Vocoder) (s : Session) (h : Heard) (at : ℕ) (d : List ℕ) (o : Offered) (b : Bool) (first : o ≡ offeredTo v s h) (twelve : b ≡ isTwelve (o .answer)) where
+  pub once-does : (r : Run) (e : List ℕ) → b ≡ false → Does (takenOf s (o .session) (o .answer)) at d r e → Does (stepOf v s h) at d r e
+  once-does r e q x =
+      does-as _ _ at d e r (offering-is v s h o first ∙ step-once v s h b (twelve ∙ ap (λ (y : Offered). isTwelve (y .answer)) first) q) x
+
+  pub later-does : (p r : Run) (e e′ : List ℕ) (o′ : Offered) → b ≡ true → Does (pouring v s) at d p e → o′ ≡ offeredTo v (p .session) h
+      → Does (takenOf (p .session) (o′ .session) (o′ .answer)) (p .octets) e r e′ → Does (stepOf v s h) at d r e′
+  later-does p r e e′ o′ q x y z =
+      does-as _ _ at d e′ r (step-later v s h b (twelve ∙ ap (λ (y : Offered). isTwelve (y .answer)) first) q)
+      (does-then (pouring v s) _ (λ t. offering v t h) at d e e′ p r x (offering-is v (p .session) h o′ y ∙ ap (λ (t : Session). offering v t h) (x .session)) z)
+
+pub lost-fit : (v : Vocoder) (s : Session) (h : Heard) (o : Offered) → o ≡ offeredTo v s h → lostIn (o .answer) ≤ 1000
+lost-fit v s h o e = rw e (lost-few v s h)
+
+-- ---- pouring, into room for any group
+module _ (v : Vocoder) (w : T (within 22 v)) (z : T (erases v)) (s : Session) (room room′ : List ℕ) (long : length room ≡ 1840) where
+  pub pours-none : (a : Written) (r : Refusal) → Writes (pourMade v s) room a room′ → a ≡ written.Refused r → pouring v s ≡ record { session = s; octets = [] }
+  unfolding pouring pouredOf writtenOf
+  pours-none a r x q = go (pourMade v s) refl (sym q ∙ x .answer)
+    where
+      go : (m : Made) → pourMade v s ≡ m → written.Refused r ≡ writtenOf m room → pouredOf s m ≡ record { session = s; octets = [] }
+      go (refused y) e a = refl
+      go (octets y) e a =
+          let h : length y ≤ length room = omega (arith, pour-most v w z s y e) in
+          let k : leb (length y) (length room) ≡ true = le-leb _ _ h in
+          let b : written.Refused r ≡ written.Octets (length y) = a ∙ simp k in
+          apart (cc)
+
+  -- the octets that were poured, of the room that was lent
+  pub record Poured (n : ℕ) : Type 0 where
+    pub step : pouring v s ≡ record { session = ended s; octets = take n room′ }
+    pub count : n ≡ length (take n room′)
+    pub inside : n ≤ length room′
+    pub few : n ≤ 1840
+
+  pub pours-some : (a : Written) (n : ℕ) → Writes (pourMade v s) room a room′ → a ≡ written.Octets n → Poured n
+  unfolding pouring pouredOf writtenOf outAfter
+  pours-some a n x q = go (pourMade v s) refl (sym q ∙ x .answer) (x .output)
+    where
+      go : (m : Made) → pourMade v s ≡ m → written.Octets n ≡ writtenOf m room → room′ ≡ outAfter m room → Poured n
+      go (refused y) e a o = apart (cc)
+      go (octets y) e a o =
+          let h : length y ≤ length room = omega (arith, pour-most v w z s y e) in
+          let k : leb (length y) (length room) ≡ true = le-leb _ _ h in
+          let b : written.Octets n ≡ written.Octets (length y) = a ∙ simp k in
+          let q : n ≡ length y = cc in
+          let f : room′ ≡ y ++ drop (length y) room = o ∙ simp k in
+          let t : take n room′ ≡ y = ap (take n) f ∙ take-at y (drop (length y) room) n (sym q) in
+          record {
+            step = ap (pouredOf s) e ∙ ap (λ (l : List ℕ). record { session = ended s; octets = l }) (sym t);
+            count = q ∙ ap length (sym t);
+            inside = omega (arith, ap length f, length-append y (drop (length y) room));
+            few = omega arith;
+          }
+
+  -- the run after it: what was poured stands where it was put
+  pub poured-does : (a : Written) (n at : ℕ) (d e : List ℕ) (t : Session) → Writes (pourMade v s) room a room′ → a ≡ written.Octets n → t ≡ afterPour s a → Put d at (take n room′) e → Does (pouring v s) at d (record { session = t; octets = at + n }) e
+  unfolding afterPour
+  poured-does a n at d e t x q y p =
+      let b = pours-some a n x q in
+      rw (b .step) (record { session = y ∙ ap (afterPour s) q; counted = ap (λ (i : ℕ). at + i) (b .count); written = p })
+
+-- ---- the run over the packets, one after the other
+module _ (v : Vocoder) (s : Session) (at : ℕ) (d : List ℕ) where
+  pub run-none : (f : ℕ → Heard) (r : Run) → r .session ≡ s → r .octets ≡ at → Does (runOf v s (upTo f 0)) at d r d
+  unfolding runOf upTo
+  run-none f r e q = record { session = e; counted = q ∙ sym (add-zero at); written = put-nothing d at }
+
+  pub run-again : (f : ℕ → Heard) (i : ℕ) (r r′ : Run) (e e′ : List ℕ) → Does (runOf v s (upTo f i)) at d r e → Does (stepOf v (r .session) (f i)) (r .octets) e r′ e′ → Does (runOf v s (upTo f (i + 1))) at d r′ e′
+  run-again f i r r′ e e′ x y =
+      does-as _ _ at d e′ r′ (sym (run-more v s f i)) (does-then (runOf v s (upTo f i)) _ (λ t. stepOf v t (f i)) at d e e′ r r′ x (ap (λ (t : Session). stepOf v t (f i)) (x .session)) y)
+
+  pub run-all : (c : List ℕ) (i : ℕ) (r : Run) (e : List ℕ) → i ≡ countOf c → Does (runOf v s (upTo (heardAt c) i)) at d r e → Does (runOf v s (packetsIn c)) at d r e
+  unfolding packetsIn
+  run-all c i r e q x = rw (← q) x
+
+-- what it has recorded is few octets
+pub run-fits : (v : Vocoder) → T (within 22 v) → T (erases v) → (c : List ℕ) → good c ≡ true → (i n at : ℕ) → n ≡ countOf c → i ≤ n → at ≡ 7 → (s : Session) → s ≡ firstSession (packetsIn c)
+    → (d e : List ℕ) (r : Run) → Does (runOf v s (upTo (heardAt c) i)) at d r e → r .octets ≤ 331807
+run-fits v w z c g i n at q h a s f d e r x =
+    let few : length (upTo (heardAt c) i) ≤ 256 = omega (arith, length-upTo (heardAt c) i, good-is c g .few) in
+    let y = run-few v w z (packetsIn c) (upTo (heardAt c) i) few in
+    let k : length (runOf v s (upTo (heardAt c) i) .octets) ≡ length (runOf v (firstSession (packetsIn c)) (upTo (heardAt c) i) .octets) = ap (λ (t : Session). length (runOf v t (upTo (heardAt c) i) .octets)) f in
+    omega (arith, y, x .counted)
+
+pub all-fits : (v : Vocoder) → T (within 22 v) → T (erases v) → (c : List ℕ) → good c ≡ true → (s : Session) → s ≡ firstSession (packetsIn c) → (d e : List ℕ) (r : Run) → Does (runOf v s (packetsIn c)) 7 d r e → r .octets ≤ 331807
+unfolding packetsIn
+all-fits v w z c g s f d e r x = run-fits v w z c g (countOf c) (countOf c) 7 refl (le-refl _) refl s f d e r x
+
+-- ---- the opening octets, written before anything else
+pub opening-put : (v : Vocoder) (o out out′ : List ℕ) (r : Written) → Writes (recordingMade v o []) out r out′ → Put out 0 o out′
+unfolding recordingMade entries outAfter over
+opening-put v o out out′ r x h =
+    let e : recordingMade v o [] ≡ octets o = ap octets (append-nil o) in
+    let k : length o ≤ length out = omega arith in
+    x .output ∙ ap (λ (m : Made). outAfter m out) e ∙ simp (le-leb _ _ k) (ap (λ (i : ℕ). o ++ drop i out) (sym (zero-add (length o))))
+
+-- ---- the whole
+whole : (v : Vocoder) (o c out out₁ out₂ : List ℕ) (r : Run) → length o ≡ 7 → Put out 0 o out₁ → Does (andThen (runOf v (firstSession (packetsIn c)) (packetsIn c)) (pouring v)) 7 out₁ r out₂
+    → (r .octets ≡ length (recordingOf v o c)) × Put out 0 (recordingOf v o c) out₂
+unfolding recordingOf recordedOf
+whole v o c out out₁ out₂ r l p d =
+    let ys = andThen (runOf v (firstSession (packetsIn c)) (packetsIn c)) (pouring v) .octets in
+    let e : 0 + length o ≡ 7 = omega arith in
+    let q : Put out₁ (0 + length o) ys out₂ = rw e (d .written) in
+    (d .counted ∙ omega (arith, length-append o ys, l), put-then out out₁ out₂ 0 o ys p q)
+
+pub whole-run : (v : Vocoder) (o c out out₁ out₂ out₃ : List ℕ) (s : Session) (r r′ : Run) → length o ≡ 7 → s ≡ firstSession (packetsIn c) → Put out 0 o out₁
+    → Does (runOf v s (packetsIn c)) 7 out₁ r out₂ → Does (pouring v (r .session)) (r .octets) out₂ r′ out₃ → (r′ .octets ≡ length (recordingOf v o c)) × Put out 0 (recordingOf v o c) out₃
+whole-run v o c out out₁ out₂ out₃ s r r′ l e p x y =
+    let k : Does (runOf v (firstSession (packetsIn c)) (packetsIn c)) 7 out₁ r out₂ = rw (← e) x in
+    whole v o c out out₁ out₃ r′ l p (does-then (runOf v (firstSession (packetsIn c)) (packetsIn c)) _ (pouring v) 7 out₁ out₂ out₃ r r′ k (ap (pouring v) (k .session)) y)
+
+-- nothing is larger
+pub largest-is : (v : Vocoder) → T (within 22 v) → T (erases v) → (o c : List ℕ) → length o ≡ 7 → good c ≡ true → length (recordingOf v o c) ≤ largest
+unfolding recordingOf recordedOf packetsIn
+largest-is v w z o c l g =
+    let few : length (packetsIn c) ≤ 256 = omega (arith, length-upTo (heardAt c) (countOf c), good-is c g .few) in
+    let y = all-few v w z (packetsIn c) (packetsIn c) few in
+    omega (arith, y, length-append o (andThen (runOf v (firstSession (packetsIn c)) (packetsIn c)) (pouring v) .octets))
+
+module _ (v : Vocoder) (o c out : List ℕ) where
+  pub answer-bad : good c ≡ false → (outcome.BadCapture ≡ recorded v o c out) × (out ≡ outputOf v o c out)
+  unfolding recorded outputOf
+  answer-bad e = (simp e, simp e)
+
+  pub answer-no-room : good c ≡ true → length out < length (recordingOf v o c) → (outcome.Recorded (written.Refused NoRoom) ≡ recorded v o c out) × (out ≡ outputOf v o c out)
+  unfolding recorded outputOf writtenOf outAfter
+  answer-no-room e h = (simp (e, lt-leb _ _ h), simp (e, lt-leb _ _ h))
+
+  pub answer-octets : good c ≡ true → length (recordingOf v o c) ≤ length out → (n : ℕ) (after : List ℕ) → n ≡ length (recordingOf v o c) → Put out 0 (recordingOf v o c) after
+      → (outcome.Recorded (written.Octets n) ≡ recorded v o c out) × (after ≡ outputOf v o c out)
+  unfolding recorded outputOf writtenOf outAfter over
+  answer-octets e h n after q p =
+      let w = recordingOf v o c in
+      let k : 0 + length w ≤ length out = omega arith in
+      (simp (e, le-leb _ _ h) (ap (λ (i : ℕ). outcome.Recorded (written.Octets i)) q), simp (e, le-leb _ _ h) (p k ∙ ap (λ (i : ℕ). w ++ drop i out) (zero-add (length w))))

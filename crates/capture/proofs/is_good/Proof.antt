@@ -1,0 +1,54 @@
+-- `capture::is_good` meets its contract.
+use borrow.Author.Needs.{needs}
+use Rattle.capture.proofs.TableLaws.{too-long, no-count, too-many, table-cut, by-end}
+use Rattle.capture.proofs.is_good.Statement.{statement}
+use Rattle.capture.proofs.is_good.Tie as tie
+
+returns : tie.Need-returns
+returns c = too-long _ (c .if1 .taken)
+
+returns-2 : tie.Need-returns-2
+returns-2 c = no-count _ (c .if2 .taken)
+
+two-requires : tie.Need-two-requires
+two-requires c κs = search needs
+
+cast-count : tie.Need-cast-count
+cast-count c = search needs
+
+returns-3 : tie.Need-returns-3
+returns-3 c = too-many _ _ (c .before .two .ensures) (c .before .before .before .if1 .left) (c .if3 .taken)
+
+mul-table : tie.Need-mul-table
+mul-table c = search needs
+
+add-table : tie.Need-add-table
+add-table c = search needs
+
+returns-4 : tie.Need-returns-4
+returns-4 c = table-cut _ _ (c .before .before .two .ensures) (c .if4 .taken)
+
+payload-octets-requires : tie.Need-payload-octets-requires
+payload-octets-requires c κs = search needs
+
+add-result : tie.Need-add-result
+add-result c = search needs
+
+returns-5 : tie.Need-returns-5
+returns-5 c = by-end _ _ _ (c .before .before .before .two .ensures) (c .payload-octets .ensures .0) (c .before .before .before .before .before .if1 .left) (c .before .before .if3 .left)
+
+pub is-good-spec : {M : Type 1} → statement M
+is-good-spec =
+    tie.close
+    (tie.spec
+    returns
+    returns-2
+    two-requires
+    cast-count
+    returns-3
+    mul-table
+    add-table
+    returns-4
+    payload-octets-requires
+    add-result
+    returns-5)

@@ -1,0 +1,50 @@
+-- Document 01, "Capture program": a capture's count, its table and its payloads.
+use Prim.Native.Nat.{ℕ, zero, suc, _+_, _*_}
+use mathlib.Core.Bool.{Bool, _&&_}
+use mathlib.Core.List.{List}
+use lib.ListN.{length, take, drop}
+use lib.Dec.{eqb, leb}
+use Rattle.octets.specs.Octets.{twoAt, fourAt}
+use Rattle.frame.specs.Places.{upTo}
+
+-- "A box hands us source number (32 bits), sequence number (16 bits), timestamp (32 bits) and payload"
+pub record Heard : Type 0 where
+  pub source : ℕ
+  pub sequence : ℕ
+  pub timestamp : ℕ
+  pub payload : List ℕ
+
+-- "big-endian: count (2, at most 256)"
+abbrev pub countOf : List ℕ → ℕ
+countOf c = twoAt c 0
+
+-- "then its table, per packet source (4), sequence (2), timestamp (4), length (2)": row i starts at 2 + 12 i
+abbrev pub lengthAt : List ℕ → ℕ → ℕ
+lengthAt c i = twoAt c (2 + 12 * i + 10)
+
+-- the octets of the first n payloads
+unfoldable pub lengths : List ℕ → ℕ → ℕ
+lengths c zero = 0
+lengths c (suc n) = lengths c n + lengthAt c n
+
+-- "then all payloads in table order": payload i starts behind the table and the payloads before it
+unfoldable pub startAt : List ℕ → ℕ → ℕ
+startAt c i = 2 + 12 * countOf c + lengths c i
+
+unfoldable pub heardAt : List ℕ → ℕ → Heard
+heardAt c i =
+    record {
+      source = fourAt c (2 + 12 * i);
+      sequence = twoAt c (2 + 12 * i + 4);
+      timestamp = fourAt c (2 + 12 * i + 6);
+      payload = take (lengthAt c i) (drop (startAt c i) c);
+    }
+
+-- the packets of a capture, in order
+unfoldable pub packetsIn : List ℕ → List Heard
+packetsIn c = upTo (heardAt c) (countOf c)
+
+-- "A capture is at most 65,536 octets": at most 256 packets, and the last payload ends where the capture ends, "nothing after"
+-- (octets that are not there read as 0, and a table that is cut ends behind the capture)
+unfoldable pub good : List ℕ → Bool
+good c = leb (length c) 65536 && leb (countOf c) 256 && eqb (startAt c (countOf c)) (length c)

@@ -1,0 +1,276 @@
+// Captures (document 01, "Capture program"): the packets that a box heard, turned into a recording.
+use frame::Form;
+use frame::Limits;
+use frame::Refusal;
+use frame::Written;
+use session::Offered;
+use session::Session;
+use session::Taken;
+ghost use mathlib.Core.Path.{_≡_};
+ghost use mathlib.Core.Bool.{true};
+ghost use Prim.Native.Nat.{_+_, _*_, _<_, _≤_};
+ghost use lib.ListN.{length, replicate};
+ghost use lib.Dec.{leb};
+ghost use Rattle.frame.specs.Table.{evrc, erasure};
+ghost use Rattle.recording.specs.Recording.{evrcOpening};
+ghost use Rattle.capture.specs.Table.{countOf, lengthAt, lengths, startAt, heardAt, packetsIn, good};
+ghost use Rattle.capture.specs.Run.{firstSession, offeredTo, lostIn, largest, takenOf, isTwelve, offering, pouring, stepOf, runOf, recordingOf, Put, Does, recorded, outputOf};
+
+// The most octets that the recording of a capture can have.
+pub const LARGEST: usize = 331807;
+
+// Zeros, as many as the largest recording has octets: room for the recording of any capture.
+pub fn room() -> [u8; LARGEST]
+    ensures { λ r. ⌜ r ≡ replicate largest 0 ⌝ }
+{
+    [0; LARGEST]
+}
+
+// The entry of an erasure.
+const ERASURE: u8 = 0x0E;
+
+// What became of a capture: it is bad; or its recording was written, or refused.
+pub enum Outcome {
+    BadCapture,
+    Recorded(Written),
+}
+
+// A run over a capture: its session, and the octets recorded so far.
+pub struct Run {
+    pub session: Session,
+    pub octets: usize,
+}
+
+// The octets of the first n payloads.
+fn payload_octets(capture: &[u8], n: usize) -> usize
+    requires { ⌜ (2 + 12 * n ≤ length (now capture)) × (n ≤ 256) ⌝ }
+    ensures { λ r. ⌜ (r ≡ lengths (now (capture .entry)) n) × (r ≤ 65535 * n) ⌝ }
+{
+    let mut total: usize = 0;
+    let mut i: usize = 0;
+    while i < n {
+        total = total + octets::two(capture, 2 + 12 * i + 10) as usize;
+        i = i + 1;
+    }
+    total
+}
+
+// Whether these octets are a capture.
+fn is_good(capture: &[u8]) -> bool
+    ensures { λ r. ⌜ r ≡ good (now (capture .entry)) ⌝ }
+{
+    if 65536 < capture.len() {
+        return false;
+    }
+    if capture.len() < 2 {
+        return false;
+    }
+    let count = octets::two(capture, 0) as usize;
+    if 256 < count {
+        return false;
+    }
+    let table = 2 + 12 * count;
+    if capture.len() < table {
+        return false;
+    }
+    table + payload_octets(capture, count) == capture.len()
+}
+
+// Packet i, whose payload begins at start, offered to a session.
+fn offer_packet(session: Session, capture: &[u8], i: usize, start: usize) -> Offered
+    requires { ⌜ (2 + 12 * (i + 1) ≤ length (now capture)) × (start ≡ startAt (now capture) i) × (start + lengthAt (now capture) i ≤ length (now capture)) ⌝ }
+    ensures { λ r. ⌜ r ≡ offeredTo evrc session (heardAt (now (capture .entry)) i) ⌝ }
+{
+    let row = 2 + 12 * i;
+    let source = octets::four(capture, row);
+    let sequence = octets::two(capture, row + 4);
+    let timestamp = octets::four(capture, row + 6);
+    let size = octets::two(capture, row + 10) as usize;
+    session::offer(
+        session,
+        source,
+        sequence,
+        timestamp,
+        &capture[start..start + size],
+    )
+}
+
+// Writes w over out from index at on, if it fits there.
+fn put(out: &mut [u8], at: usize, w: &[u8])
+    ensures { λ _. ⌜ Put (now (out .entry)) at (now (w .entry)) (now (out .exit)) ⌝ }
+{
+    if at <= out.len() {
+        if w.len() <= out.len() - at {
+            octets::copy(out, at, w);
+        }
+    }
+}
+
+// Writes an erasure for each lost frame over out from index at on, if they fit there.
+fn put_lost(out: &mut [u8], at: usize, lost: usize)
+    ensures { λ _. ⌜ Put (now (out .entry)) at (replicate lost erasure) (now (out .exit)) ⌝ }
+{
+    if at <= out.len() {
+        if lost <= out.len() - at {
+            octets::fill(out, at, lost, ERASURE);
+        }
+    }
+}
+
+// The run after its session's group was poured, if there is one.
+fn pour_group(run: Run, out: &mut [u8]) -> Run
+    requires { ⌜ run .octets ≤ 1000000 ⌝ }
+    ensures { λ r. ⌜ Does (pouring evrc (run .session)) (run .octets) (now (out .entry)) r (now (out .exit)) ⌝ }
+{
+    let mut room = [0u8; 1840];
+    let session = run.session;
+    let at = run.octets;
+    let poured = session::pour(session, &mut room);
+    let answer = poured.answer;
+    match answer {
+        Written::Refused(_) => run,
+        Written::Octets(count) => {
+            put(out, at, &room[..count]);
+            let next = poured.session;
+            Run {
+                session: next,
+                octets: at + count,
+            }
+        }
+    }
+}
+
+// The run after an offer: lost frames are recorded as erasures, and a refusal leaves it as it was.
+fn take(run: Run, offered: Offered, out: &mut [u8]) -> Run
+    requires { ⌜ (run .octets ≤ 1000000) × (lostIn (offered .answer) ≤ 1000) ⌝ }
+    ensures { λ r. ⌜ Does (takenOf (run .session) (offered .session) (offered .answer)) (run .octets) (now (out .entry)) r (now (out .exit)) ⌝ }
+{
+    let at = run.octets;
+    let answer = offered.answer;
+    match answer {
+        Taken::Refused(_) => run,
+        Taken::Accepted(lost) => {
+            put_lost(out, at, lost);
+            let next = offered.session;
+            Run {
+                session: next,
+                octets: at + lost,
+            }
+        }
+    }
+}
+
+// Whether an answer is 12.
+fn is_later(answer: Taken) -> bool
+    ensures { λ r. ⌜ r ≡ isTwelve answer ⌝ }
+{
+    match answer {
+        Taken::Accepted(_) => false,
+        Taken::Refused(reason) => {
+            let number = reason.number();
+            number == 12
+        }
+    }
+}
+
+// The run after packet i: on 12 the group is poured and the packet offered again.
+fn step(run: Run, capture: &[u8], i: usize, start: usize, out: &mut [u8]) -> Run
+    requires { ⌜ (2 + 12 * (i + 1) ≤ length (now capture)) × (start ≡ startAt (now capture) i) × (start + lengthAt (now capture) i ≤ length (now capture)) × (run .octets ≤ 500000) ⌝ }
+    ensures { λ r. ⌜ Does (stepOf evrc (run .session) (heardAt (now (capture .entry)) i)) (run .octets) (now (out .entry)) r (now (out .exit)) ⌝ }
+{
+    let session = run.session;
+    let offered = offer_packet(session, capture, i, start);
+    let answer = offered.answer;
+    let later = is_later(answer);
+    if later {
+        let poured = pour_group(run, out);
+        let next = poured.session;
+        let again = offer_packet(next, capture, i, start);
+        return take(poured, again, out);
+    }
+    take(run, offered, out)
+}
+
+// The session that a capture is offered to: for the first packet's source, if there is one.
+fn first_session(capture: &[u8], count: usize) -> Session
+    requires { ⌜ (2 + 12 * count ≤ length (now capture)) × (count ≡ countOf (now capture)) ⌝ }
+    ensures { λ r. ⌜ r ≡ firstSession (packetsIn (now (capture .entry))) ⌝ }
+{
+    let none = session::closed();
+    if count == 0 {
+        return none;
+    }
+    let form = Form::Interleaved(Limits {
+        max_l: 7,
+        max_b: 10,
+    });
+    let started = session::open(none, octets::four(capture, 2), form);
+    let session = started.session;
+    session
+}
+
+// The run over all packets.
+fn run_packets(begun: Run, capture: &[u8], count: usize, out: &mut [u8]) -> Run
+    requires { ⌜ (good (now capture) ≡ true) × (count ≡ countOf (now capture)) × (begun .octets ≡ 7) × (begun .session ≡ firstSession (packetsIn (now capture))) ⌝ }
+    ensures { λ r. ⌜ Does (runOf evrc (begun .session) (packetsIn (now (capture .entry)))) (begun .octets) (now (out .entry)) r (now (out .exit)) ⌝ }
+{
+    let mut run = begun;
+    let mut start = 2 + 12 * count;
+    let mut i: usize = 0;
+    while i < count {
+        run = step(run, capture, i, start, out);
+        start = start + octets::two(capture, 2 + 12 * i + 10) as usize;
+        i = i + 1;
+    }
+    run
+}
+
+// Runs over a good capture and gives the octets of its recording, which is written over out if it fits there.
+fn run_capture(capture: &[u8], out: &mut [u8]) -> usize
+    requires { ⌜ good (now capture) ≡ true ⌝ }
+    ensures { λ r. ⌜ (r ≡ length (recordingOf evrc evrcOpening (now (capture .entry)))) × Put (now (out .entry)) 0 (recordingOf evrc evrcOpening (now (capture .entry))) (now (out .exit)) ⌝ }
+{
+    let count = octets::two(capture, 0) as usize;
+    recording::write(&capture[..0], out);
+    let session = first_session(capture, count);
+    let begun = Run { session, octets: 7 };
+    let run = run_packets(begun, capture, count, out);
+    let ended = pour_group(run, out);
+    ended.octets
+}
+
+// The octets of the recording of a good capture: a run over no room.
+fn measure(capture: &[u8]) -> usize
+    requires { ⌜ good (now capture) ≡ true ⌝ }
+    ensures { λ r. ⌜ r ≡ length (recordingOf evrc evrcOpening (now (capture .entry))) ⌝ }
+{
+    let mut none = [0u8; 0];
+    run_capture(capture, &mut none)
+}
+
+// Whether the recording of a good capture fits into so many octets. Where any does, nothing is measured.
+fn fits(capture: &[u8], room: usize) -> bool
+    requires { ⌜ good (now capture) ≡ true ⌝ }
+    ensures { λ r. ⌜ r ≡ leb (length (recordingOf evrc evrcOpening (now (capture .entry)))) room ⌝ }
+{
+    if LARGEST <= room {
+        return true;
+    }
+    measure(capture) <= room
+}
+
+// Turns a capture into a recording, written to out. The whole is judged before an octet is written.
+pub fn record(capture: &[u8], out: &mut [u8]) -> Outcome
+    ensures { λ r. ⌜ (r ≡ recorded evrc evrcOpening (now (capture .entry)) (now (out .entry))) × (now (out .exit) ≡ outputOf evrc evrcOpening (now (capture .entry)) (now (out .entry))) ⌝ }
+{
+    let good = is_good(capture);
+    if !good {
+        return Outcome::BadCapture;
+    }
+    let enough = fits(capture, out.len());
+    if !enough {
+        return Outcome::Recorded(Written::Refused(Refusal::NoRoom));
+    }
+    let count = run_capture(capture, out);
+    Outcome::Recorded(Written::Octets(count))
+}

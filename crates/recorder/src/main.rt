@@ -1,0 +1,44 @@
+// Reads a capture from standard input and writes its recording to standard output, or the line "bad capture". Nothing is written
+// before the whole capture is judged.
+use capture::Outcome;
+use frame::Written;
+use libc::STDIN_FILENO;
+use libc::STDOUT_FILENO;
+
+fn say_bad() {
+    let line = *b"bad capture\n";
+    io::write_all(STDOUT_FILENO, &line);
+}
+
+// The first octets of a buffer.
+fn say_first(octets: &[u8], count: usize) {
+    if count <= octets.len() {
+        io::write_all(STDOUT_FILENO, &octets[..count]);
+    }
+}
+
+// There is room for any recording, so none is refused.
+fn say_recording(capture: &[u8]) {
+    let mut out = capture::room();
+    let outcome = capture::record(capture, &mut out);
+    match outcome {
+        Outcome::BadCapture => say_bad(),
+        Outcome::Recorded(written) => match written {
+            Written::Octets(count) => say_first(&out, count),
+            Written::Refused(_) => say_bad(),
+        },
+    }
+}
+
+// Input longer than a capture is bad.
+fn main() {
+    let mut input = io::large_buffer();
+    let count = io::read_full(STDIN_FILENO, &mut input);
+    let mut more = [0u8; 1];
+    let left = io::read_full(STDIN_FILENO, &mut more);
+    if 0 < left {
+        say_bad();
+    } else {
+        say_recording(&input[..count]);
+    }
+}

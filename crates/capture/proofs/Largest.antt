@@ -166,7 +166,7 @@ weight-most s = go (isNothing (s .group))
 -- ---- an offer brings 300 octets at most, and the lost frames before it
 data Brings (s : Session) (o : Offered) : Type 0 where
   nothing-new : (r : Refusal) → o ≡ refuse s r → Brings s o
-  more : (t : Session) (lost : ℕ) → o ≡ accept t lost → t .poured ≡ s .poured → lost ≤ 1000 → lost + weight t ≤ weight s + 300 + before s → Brings s o
+  more : (t : Session) (lost : ℕ) → o ≡ accept t lost → t .poured ≡ s .poured → t .source ≡ s .source → lost ≤ 1000 → lost + weight t ≤ weight s + 300 + before s → Brings s o
 
 choose : (s : Session) (b : Bool) (o o′ : Offered) → (b ≡ true → Brings s o) → (b ≡ false → Brings s o′) → Brings s (cond b o o′)
 choose s true o o′ f g = f refl
@@ -178,7 +178,7 @@ begins-brings s a lost h k =
     let none = begun (s .source) (a .sequence) (a .timestamp) (a .l) (a .b) in
     let t = withGroup s (withPacket none (a .n) (a .packet)) in
     let e = begun-none (s .source) (a .sequence) (a .timestamp) (a .l) (a .b) 8 (le-refl 8) in
-    more t lost refl refl k (omega (arith, weight-most t, with-small none (a .n) (a .packet) 8, e))
+    more t lost refl refl refl k (omega (arith, weight-most t, with-small none (a .n) (a .packet) 8, e))
 
 base-brings : (s : Session) (a : Arrival) → isNothing (s .group) ≡ false → Brings s (sameBase s a)
 unfolding sameBase withGroup
@@ -190,8 +190,8 @@ base-brings s a q =
     choose s (eqb (a .l) (g .l) && (eqb (a .b) (g .b) && eqb (a .timestamp) (g .timestamp))) (cond (heldAt g (a .n)) same (accept t 0)) (refuse s ContradictsGroup)
     (λ _. choose s (heldAt g (a .n)) same (accept t 0)
     (λ _. choose s (samePackets (packetOf g (a .n)) (a .packet)) (accept s 0) (refuse s PacketDiffers)
-    (λ _. more s 0 refl refl (omega arith) (omega arith)) (λ _. nothing-new PacketDiffers refl))
-    (λ _. more t 0 refl refl (omega arith) (omega (arith, weight-most t, with-small g (a .n) (a .packet) 8, held))))
+    (λ _. more s 0 refl refl refl (omega arith) (omega arith)) (λ _. nothing-new PacketDiffers refl))
+    (λ _. more t 0 refl refl refl (omega arith) (omega (arith, weight-most t, with-small g (a .n) (a .packet) 8, held))))
     (λ _. nothing-new ContradictsGroup refl)
 
 distance-brings : (s : Session) (a : Arrival) (d : ℕ) → isNothing (s .group) ≡ false → Brings s (atDistance s a d)
@@ -249,11 +249,12 @@ lost-few v s h = go (offeredTo v s h) (offer-brings v s h)
   where
     go : (o : Offered) → Brings s o → lostIn (o .answer) ≤ 1000
     go o (nothing-new r e) = let q : lostIn (o .answer) ≡ 0 = ap (λ (x : Offered). lostIn (x .answer)) e in omega arith
-    go o (more t lost e p l w) = let q : lostIn (o .answer) ≡ lost = ap (λ (x : Offered). lostIn (x .answer)) e in omega arith
+    go o (more t lost e p f l w) = let q : lostIn (o .answer) ≡ lost = ap (λ (x : Offered). lostIn (x .answer)) e in omega arith
 
 -- ---- an offer in a run
 record Brought (s : Session) (a : Step) : Type 0 where
   same : a .session .poured ≡ s .poured
+  source : a .session .source ≡ s .source
   small : length (a .octets) + weight (a .session) ≤ weight s + 300 + before s
 
 offering-brought : (v : Vocoder) (s : Session) (h : Heard) → Brought s (offering v s h)
@@ -261,8 +262,25 @@ unfolding offering takenOf refuse accept
 offering-brought v s h = go (offeredTo v s h) (offer-brings v s h)
   where
     go : (o : Offered) → Brings s o → Brought s (takenOf s (o .session) (o .answer))
-    go o (nothing-new r e) = rw e (record { same = refl; small = omega arith })
-    go o (more t lost e p l w) = rw e (record { same = p; small = omega (arith, w, length-replicate lost erasure) })
+    go o (nothing-new r e) = rw e (record { same = refl; source = refl; small = omega arith })
+    go o (more t lost e p q l w) = rw e (record { same = p; source = q; small = omega (arith, w, length-replicate lost erasure) })
+
+-- ---- no step changes whose session it is
+pouring-source : (v : Vocoder) (s : Session) → pouring v s .session .source ≡ s .source
+unfolding pouring pouredOf ended
+pouring-source v s = go (pourMade v s)
+  where
+    go : (m : Made) → pouredOf s m .session .source ≡ s .source
+    go (outputs.octets w) = refl
+    go (outputs.refused r) = refl
+
+pub step-source : (v : Vocoder) (s : Session) (h : Heard) → stepOf v s h .session .source ≡ s .source
+unfolding stepOf andThen
+step-source v s h = go (isTwelve (offeredTo v s h .answer))
+  where
+    go : (b : Bool) → cond b (andThen (pouring v s) (λ t. offering v t h)) (offering v s h) .session .source ≡ s .source
+    go false = offering-brought v s h .source
+    go true = offering-brought v (pouring v s .session) h .source ∙ pouring-source v s
 
 -- ---- pouring in a run
 data Pours (s : Session) (a : Step) : Type 0 where

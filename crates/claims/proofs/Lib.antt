@@ -9,5 +9,6 @@ pub mod Demand3Claims
 pub mod SendingClaims
 pub mod BoxesClaims
 pub mod MissingClaims
+pub mod CaptureClaims
 pub mod Outcomes
 pub mod IdleClaims

@@ -6,6 +6,9 @@ pub determined : Determined
 unfolding AnswerFixed OutcomeFixed
 determined = record {
   octetsCopy = λ κs a x y s t p q. p ∙ sym q;
+  octetsFill = λ κs a x y s t p q. p ∙ sym q;
+  octetsTwo = λ κs a x y s t p q. p ∙ sym q;
+  octetsFour = λ κs a x y s t p q. p ∙ sym q;
   octetsSame = λ κs a x y s t p q. p ∙ sym q;
   octetsZeros = λ κs a x y s t p q. p ∙ sym q;
   octetsAny = λ κs a x y s t p q. p ∙ sym q;
@@ -59,4 +62,7 @@ determined = record {
   holdingHoldsPacket = λ κs a x y s t p q. p ∙ sym q;
   joiningJoin = λ κs a x y s t p q. p ∙ sym q;
   pouringPour = λ κs a x y s t p q. cc (p .answer, p .output, q .answer, q .output);
+  captureRoom = λ κs a x y s t p q. p ∙ sym q;
+  captureRecord = λ κs a x y s t p q. cc (p .0, p .1, q .0, q .1);
+  lvCaptureRecord = λ κs a x y s t p q. p ∙ sym q;
 }

@@ -146,7 +146,7 @@ pub ended-takes-nothing : EndedTakesNothing
 unfolding EndedTakesNothing offered isOpen never vacant
 ended-takes-nothing v source q t p = refl
 
-fresh-open : (v : Vocoder) (source : ℕ) (form : Form) → formRight form ≡ true → isOpen v (fresh source form) ≡ true
+pub fresh-open : (v : Vocoder) (source : ℕ) (form : Form) → formRight form ≡ true → isOpen v (fresh source form) ≡ true
 unfolding isOpen fresh vacant lastRight groupRight
 fresh-open v source form e = simp (e, nothing-is)
 

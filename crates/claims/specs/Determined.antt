@@ -12,6 +12,19 @@ use Rattle.frame.specs.declared.Written.{Written}
 use Rattle.session.specs.declared.Session.{Session}
 use Rattle.octets.proofs.copy.Kinds as octets-copy-kinds
 use Rattle.octets.proofs.copy.Reads as octets-copy
+use Rattle.octets.proofs.fill.Kinds as octets-fill-kinds
+use Rattle.octets.proofs.fill.Reads as octets-fill
+use Rattle.octets.proofs.two.Kinds as octets-two-kinds
+use Rattle.octets.proofs.two.Reads as octets-two
+use Rattle.octets.proofs.four.Kinds as octets-four-kinds
+use Rattle.octets.proofs.four.Reads as octets-four
+use Rattle.capture.proofs.room.Kinds as capture-room-kinds
+use Rattle.capture.proofs.room.Reads as capture-room
+use Rattle.capture.proofs.record.Kinds as capture-record-kinds
+use Rattle.capture.proofs.record.Reads as capture-record
+use Rattle.landing.proofs.lv_capture_record.Kinds as landing-lv-capture-record-kinds
+use Rattle.landing.proofs.lv_capture_record.Reads as landing-lv-capture-record
+use Rattle.capture.specs.declared.Outcome.{Outcome}
 use Rattle.octets.proofs.same.Kinds as octets-same-kinds
 use Rattle.octets.proofs.same.Reads as octets-same
 use Rattle.octets.proofs.zeros.Kinds as octets-zeros-kinds
@@ -135,6 +148,9 @@ OutcomeFixed n ps r post X seen =
 -- every public call of the house
 pub record Determined : Type 0 where
   pub octetsCopy : OutcomeFixed 2 octets-copy-kinds.ps octets-copy-kinds.r octets-copy.Post (List ℕ) (λ κs x s. now (s .0))
+  pub octetsFill : OutcomeFixed 1 octets-fill-kinds.ps octets-fill-kinds.r octets-fill.Post (List ℕ) (λ κs x s. now (s .0))
+  pub octetsTwo : AnswerFixed 1 octets-two-kinds.ps octets-two-kinds.r octets-two.Post
+  pub octetsFour : AnswerFixed 1 octets-four-kinds.ps octets-four-kinds.r octets-four.Post
   pub octetsSame : AnswerFixed 2 octets-same-kinds.ps octets-same-kinds.r octets-same.Post
   pub octetsZeros : AnswerFixed 1 octets-zeros-kinds.ps octets-zeros-kinds.r octets-zeros.Post
   pub octetsAny : AnswerFixed 1 octets-any-kinds.ps octets-any-kinds.r octets-any.Post
@@ -188,3 +204,6 @@ pub record Determined : Type 0 where
   pub sessionPour : OutcomeFixed 1 session-pour-kinds.ps session-pour-kinds.r session-pour.Post (Written × Session × List ℕ) (λ κs x s. (x .answer, x .session, now (s .1 .0)))
   pub sessionCopyOut : AnswerFixed 0 session-copy-out-kinds.ps session-copy-out-kinds.r session-copy-out.Post
   pub sessionEnd : AnswerFixed 0 session-end-kinds.ps session-end-kinds.r session-end.Post
+  pub captureRoom : AnswerFixed 0 capture-room-kinds.ps capture-room-kinds.r capture-room.Post
+  pub captureRecord : OutcomeFixed 2 capture-record-kinds.ps capture-record-kinds.r capture-record.Post (Outcome × List ℕ) (λ κs x s. (x, now (s .1 .0)))
+  pub lvCaptureRecord : OutcomeFixed 3 landing-lv-capture-record-kinds.ps landing-lv-capture-record-kinds.r landing-lv-capture-record.Post WriteTold (λ κs x s. writeTold x (now (s .1 .1 .0)) (now (s .1 .0)))

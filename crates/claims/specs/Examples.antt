@@ -1,6 +1,7 @@
--- Document 01, "Marked examples": P1 to P10 and P13 to P15, under a single claim.
+-- Document 01, "Marked examples": P1 to P15, under a single claim.
 use Prim.Native.Nat.{ℕ, zero, suc}
 use mathlib.Core.Path.{_≡_}
+use mathlib.Core.Bool.{true}
 use mathlib.Core.List.{List, [], _∷_, _++_, map}
 use lib.ListN.{length, replicate}
 use Rattle.frame.specs.Table.{evrc}
@@ -16,6 +17,9 @@ use Rattle.session.specs.Session.{inGroup, refuse}
 use Rattle.session.specs.declared.Session.{Session}
 use Rattle.session.specs.declared.Arrival.{Arrival}
 use Rattle.holding.specs.Bases.{baseSequence, baseTimestamp}
+use Rattle.recording.specs.Recording.{evrcOpening}
+use Rattle.capture.specs.Table.{good}
+use Rattle.capture.specs.Run.{recordingOf}
 use Rattle.payload.specs.Payload.{Reading, packet, refused, readAs}
 use Rattle.payload.specs.Shown.{givenAs}
 
@@ -71,16 +75,43 @@ rows =
     record { form = HeaderFree; octets = replicate 5 0x55; says = number 9 } ∷
     []
 
--- each row's octets are read as the row says; (P13) sequence 0000, timestamp 0, N 1 has the bases FFFF and FFFFFF60; and (P14) any 22
--- octets are a frame of type 4
 -- (P15) "held base FFFF, L 1: new base 0001 is 12, 0000 is 11, FFFE is 13", of any session that holds such a group
 pub record P15 : Type 0 where
   pub later : (s : Session) (a : Arrival) → s .group .sequence ≡ 0xFFFF → s .group .l ≡ 1 → a .sequence ≡ 0x0001 → inGroup s a ≡ refuse s LaterGroup
   pub inside : (s : Session) (a : Arrival) → s .group .sequence ≡ 0xFFFF → s .group .l ≡ 1 → a .sequence ≡ 0x0000 → inGroup s a ≡ refuse s ContradictsGroup
   pub earlier : (s : Session) (a : Arrival) → s .group .sequence ≡ 0xFFFF → s .group .l ≡ 1 → a .sequence ≡ 0xFFFE → inGroup s a ≡ refuse s EarlierGroup
 
+-- the whole case: two packets of one group
+abbrev pub wholeCase : List ℕ
+wholeCase =
+    0x00 ∷ 0x02 ∷
+    0x00 ∷ 0x00 ∷ 0x00 ∷ 0x07 ∷ 0xFF ∷ 0xFF ∷ 0xFF ∷ 0xFF ∷ 0xFF ∷ 0x60 ∷ 0x00 ∷ 0x07 ∷
+    0x00 ∷ 0x00 ∷ 0x00 ∷ 0x07 ∷ 0x00 ∷ 0x00 ∷ 0x00 ∷ 0x00 ∷ 0x00 ∷ 0x00 ∷ 0x00 ∷ 0x07 ∷
+    0x08 ∷ 0x81 ∷ 0x01 ∷ 0x11 ∷ 0x11 ∷ 0x33 ∷ 0x33 ∷
+    0x09 ∷ 0x81 ∷ 0x01 ∷ 0x22 ∷ 0x22 ∷ 0x44 ∷ 0x44 ∷ []
+
+-- the same, its second packet lost
+abbrev pub secondLost : List ℕ
+secondLost =
+    0x00 ∷ 0x01 ∷
+    0x00 ∷ 0x00 ∷ 0x00 ∷ 0x07 ∷ 0xFF ∷ 0xFF ∷ 0xFF ∷ 0xFF ∷ 0xFF ∷ 0x60 ∷ 0x00 ∷ 0x07 ∷
+    0x08 ∷ 0x81 ∷ 0x01 ∷ 0x11 ∷ 0x11 ∷ 0x33 ∷ 0x33 ∷ []
+
+-- a capture is good, and its recording is the opening octets and these
+pub record Records (c w : List ℕ) : Type 0 where
+  pub whole : good c ≡ true
+  pub recording : recordingOf evrc evrcOpening c ≡ evrcOpening ++ w
+
+-- (P11) and (P12)
+pub record WholeCase : Type 0 where
+  pub heard : Records wholeCase (0x01 ∷ 0x11 ∷ 0x11 ∷ 0x01 ∷ 0x22 ∷ 0x22 ∷ 0x01 ∷ 0x33 ∷ 0x33 ∷ 0x01 ∷ 0x44 ∷ 0x44 ∷ [])
+  pub lost : Records secondLost (0x01 ∷ 0x11 ∷ 0x11 ∷ 0x0E ∷ 0x01 ∷ 0x33 ∷ 0x33 ∷ 0x0E ∷ [])
+
+-- each row's octets are read as the row says; (P13) sequence 0000, timestamp 0, N 1 has the bases FFFF and FFFFFF60; and (P14) any 22
+-- octets are a frame of type 4
 pub record MarkedExamples : Type 0 where
   pub asSaid : map (λ (r : Row). said (r .form) (r .octets)) rows ≡ map (λ (r : Row). r .says) rows
   pub anyRate1 : (p : List ℕ) → length p ≡ 22 → readAs evrc HeaderFree p ≡ packet 0 0 0 (record { type = 4; body = p } ∷ [])
   pub bases : (baseSequence 0 1 ≡ 0xFFFF) × (baseTimestamp 0 1 ≡ 0xFFFFFF60)
   pub distances : P15
+  pub captures : WholeCase

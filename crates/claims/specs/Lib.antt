@@ -8,5 +8,6 @@ pub mod Demand3
 pub mod Missing
 pub mod Sending
 pub mod Boxes
+pub mod Captures
 pub mod Idle
 pub mod Determined

@@ -1,0 +1,62 @@
+-- Document 01, "Capture program": what holds of every capture. Over any frame table.
+use Prim.Native.Nat.{ℕ, _+_, _*_, _%_, _≤_, _<_}
+use mathlib.Core.Path.{_≡_}
+use mathlib.Core.List.{List, [], _∷_, _++_, map}
+use mathlib.Core.Bool.{true, false, cond}
+use lib.Dec.{eqb}
+use lib.ListN.{length}
+use Rattle.frame.specs.Table.{Vocoder, Frame, evrc, erasure}
+use Rattle.frame.specs.Places.{frameAt}
+use Rattle.frame.specs.declared.Form.{Form}
+use Rattle.packet.specs.Packet.{placeOf}
+use Rattle.recording.specs.Entries.{entriesOf}
+use Rattle.recording.specs.Recording.{evrcOpening}
+use Rattle.capture.specs.Table.{Heard, countOf, packetsIn, good}
+use Rattle.capture.specs.Run.{captureForm, recordedOf, recordingOf, largest}
+use Rattle.claims.specs.Joinings.{HasRoom}
+use Rattle.claims.specs.Demand3.{Sent, Within, among}
+
+-- packet n of a group, as a box hands it over
+abbrev pub heardOf : {v : Vocoder} {form : Form} → Sent v form → ℕ → Heard
+heardOf g n =
+    record {
+      source = g .source;
+      sequence = (g .sequence + n) % 65536;
+      timestamp = (g .timestamp + 160 * n) % 4294967296;
+      payload = g .payload n;
+    }
+
+-- a recording of a group of which these packets were heard: at each time place the original frame, or an erasure
+pub record RecordsGroup {v : Vocoder} {form : Form} (recording opening : List ℕ) (g : Sent v form) (ns : List ℕ) : Type 0 where
+  pub frames : List Frame
+  pub behind-opening : recording ≡ opening ++ entriesOf frames
+  pub count : length frames ≡ (g .l + 1) * g .b
+  pub original : (n k : ℕ) → n ≤ g .l → k < g .b → among n ns ≡ true → frameAt frames (placeOf (g .l) n k) ≡ frameAt (g .frames) (placeOf (g .l) n k)
+  pub erased : (n k : ℕ) → n ≤ g .l → k < g .b → among n ns ≡ false → frameAt frames (placeOf (g .l) n k) ≡ record { type = erasure; body = [] }
+
+-- demand 3 through a capture: a group that was sent, any part of it, in any order, repeats allowed
+unfoldable pub GroupIsRecorded : Type 0
+GroupIsRecorded =
+    (v : Vocoder) → HasRoom v → (g : Sent v captureForm) (n : ℕ) (ns : List ℕ) → Within (g .l) (n ∷ ns) →
+    (opening c : List ℕ) → packetsIn c ≡ map (heardOf g) (n ∷ ns) → RecordsGroup (recordingOf v opening c) opening g (n ∷ ns)
+
+-- the packets that have this source
+abbrev pub fromSource : ℕ → List Heard → List Heard
+fromSource source [] = []
+fromSource source (h ∷ hs) = cond (eqb (h .source) source) (h ∷ fromSource source hs) (fromSource source hs)
+
+-- "The session takes the first packet's source": no packet of another source leaves a trace
+unfoldable pub FirstSourceAlone : Type 0
+FirstSourceAlone = (v : Vocoder) (h : Heard) (hs : List Heard) → recordedOf v (h ∷ hs) ≡ recordedOf v (h ∷ fromSource (h .source) hs)
+
+-- so where all the others are of other sources, the first packet is recorded as if it had come alone
+unfoldable pub OthersAreNotHeard : Type 0
+OthersAreNotHeard = (v : Vocoder) (h : Heard) (hs : List Heard) → fromSource (h .source) hs ≡ [] → recordedOf v (h ∷ hs) ≡ recordedOf v (h ∷ [])
+
+-- "Count 0 gives the seven opening octets."
+unfoldable pub NoPacketGivesOpening : Type 0
+NoPacketGivesOpening = (v : Vocoder) (opening c : List ℕ) → countOf c ≡ 0 → recordingOf v opening c ≡ opening
+
+-- no recording of a capture is larger than the room that the program has for it
+unfoldable pub NothingIsLarger : Type 0
+NothingIsLarger = (c : List ℕ) → good c ≡ true → length (recordingOf evrc evrcOpening c) ≤ largest

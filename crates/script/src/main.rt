@@ -74,22 +74,6 @@ fn say_poured(answer: Written, out: &[u8]) {
     }
 }
 
-fn pair(high: u8, low: u8) -> u16 {
-    (high as u16) << 8 | low as u16
-}
-
-fn two(input: &[u8], at: usize) -> u16
-    requires { ⌜ at + 2 ≤ length (now input) ⌝ }
-{
-    pair(input[at], input[at + 1])
-}
-
-fn four(input: &[u8], at: usize) -> u32
-    requires { ⌜ at + 4 ≤ length (now input) ⌝ }
-{
-    (two(input, at) as u32) << 16 | two(input, at + 2) as u32
-}
-
 fn session_of(table: Table, who: u8) -> Session {
     if who == 0 {
         let first = table.first;
@@ -140,7 +124,7 @@ fn play_open(table: Table, who: u8, input: &[u8]) -> Table
     requires { ⌜ 9 ≤ length (now input) ⌝ }
 {
     let form = form_of(input[6], input[7], input[8]);
-    let started = session::open(session_of(table, who), four(input, 2), form);
+    let started = session::open(session_of(table, who), octets::four(input, 2), form);
     let answer = started.answer;
     say_answer(answer);
     let next = started.session;
@@ -153,9 +137,9 @@ fn play_offer(table: Table, who: u8, input: &[u8]) -> Table
 {
     let offered = session::offer(
         session_of(table, who),
-        four(input, 2),
-        two(input, 6),
-        four(input, 8),
+        octets::four(input, 2),
+        octets::two(input, 6),
+        octets::four(input, 8),
         &input[14..],
     );
     let answer = offered.answer;
@@ -229,7 +213,7 @@ fn step_long(table: Table, op: u8, who: u8, input: &[u8]) -> Played
     if input.len() < 14 {
         return Played { table, octets: 0 };
     }
-    let total = 14 + two(input, 12) as usize;
+    let total = 14 + octets::two(input, 12) as usize;
     if input.len() < total {
         return Played { table, octets: 0 };
     }
@@ -247,7 +231,7 @@ fn step_pour(table: Table, op: u8, who: u8, input: &[u8]) -> Played
     if input.len() < 4 {
         return Played { table, octets: 0 };
     }
-    let room = two(input, 2) as usize;
+    let room = octets::two(input, 2) as usize;
     if 2000 < room {
         return Played { table, octets: 0 };
     }

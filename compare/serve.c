@@ -125,6 +125,18 @@ static uint8_t u8(const struct request *request, int place)
     return (uint8_t)request->scalar[place];
 }
 
+static uint16_t u16(const struct request *request, int place)
+{
+    demand(request->scalar[place] <= UINT16_MAX, "malformed request: a scalar is too great for its type");
+    return (uint16_t)request->scalar[place];
+}
+
+static uint32_t u32(const struct request *request, int place)
+{
+    demand(request->scalar[place] <= UINT32_MAX, "malformed request: a scalar is too great for its type");
+    return (uint32_t)request->scalar[place];
+}
+
 static size_t size(const struct request *request, int place)
 {
     return request->scalar[place];
@@ -185,6 +197,28 @@ static uint8_t make_call(const struct request *r)
     case 8:
         takes(r, 0, 3);
         return lv_capture_record(lent(r, 0), len(r, 0), lent(r, 1), len(r, 1), out_size(r, 2));
+    case 9:
+        takes(r, 4, 1);
+        return lv_session_open(u32(r, 0), u8(r, 1), u8(r, 2), u8(r, 3), lent(r, 0), len(r, 0));
+    case 10:
+        takes(r, 3, 3);
+        return lv_session_offer(lent(r, 0), len(r, 0), u32(r, 0), u16(r, 1), u32(r, 2), lent(r, 1), len(r, 1),
+                                out_size(r, 2));
+    case 11:
+        takes(r, 0, 3);
+        return lv_session_pour(lent(r, 0), len(r, 0), lent(r, 1), len(r, 1), out_size(r, 2));
+    case 12:
+        takes(r, 0, 2);
+        return lv_session_copy(lent(r, 0), len(r, 0), lent(r, 1), len(r, 1));
+    case 13:
+        takes(r, 0, 1);
+        return lv_session_end(lent(r, 0), len(r, 0));
+    case 14:
+        takes(r, 0, 3);
+        return lv_holding_join(lent(r, 0), len(r, 0), lent(r, 1), len(r, 1), lent(r, 2), len(r, 2));
+    case 15:
+        takes(r, 0, 3);
+        return lv_holding_pour(lent(r, 0), len(r, 0), lent(r, 1), len(r, 1), out_size(r, 2));
     }
     fail("malformed request: no such call");
     return 0;

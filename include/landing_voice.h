@@ -119,6 +119,51 @@ uint8_t lv_recording_write(const uint8_t *entries, size_t entries_len, uint8_t *
  * Refuses, in this order: 255 (bad capture), 15. */
 uint8_t lv_capture_record(const uint8_t *capture, size_t len, uint8_t *out, size_t out_len, size_t *written);
 
+/* Sessions and holdings live in octets that the host lends: a session hears one source, a holding is one group as far as
+ * heard. The octets are the library's own: the host lends them, copies them and compares them whole, but does not look into
+ * them. A wholly zero session is one never opened; a wholly zero holding holds no packet. Equal knowledge is equal octets.
+ * A call that accepts writes all LV_SESSION_OCTETS or LV_HOLDING_OCTETS of what it changes, and leaves octets past them as
+ * they are; a buffer with fewer answers 15 before all else. Octets that no call has written count as a session that is not
+ * open, or as a holding of no packet, wherever they break the library's rules. */
+enum {
+    LV_SESSION_OCTETS = 2048,
+    LV_HOLDING_OCTETS = 2048
+};
+
+/* Opens a session for a source in the agreed form, whatever the octets were: a fresh session that holds no group and
+ * remembers none.
+ * Refuses, in this order: 15 (len below LV_SESSION_OCTETS), 21 (no such form, maxima out of range). */
+uint8_t lv_session_open(uint32_t source, uint8_t form, uint8_t max_l, uint8_t max_b, uint8_t *session, size_t len);
+
+/* Offers a packet to a session. On LV_OK: it is held, or was already, and *lost is the number of frames lost before the group
+ * that it begins; 0 if it begins none.
+ * Refuses, in this order: 15 (len below LV_SESSION_OCTETS), 21 (not open), 10, the payload's refusals (1 to 9); then by its
+ * place 11, 12, 13, 14, 16. After 12 the host pours the group and offers the packet again. */
+uint8_t lv_session_offer(uint8_t *session, size_t len, uint32_t source, uint16_t sequence, uint32_t timestamp,
+                         const uint8_t *payload, size_t payload_len, size_t *lost);
+
+/* Pours the group that a session holds, and ends it: its frames in time order as recording entries, those not heard as
+ * erasures. On LV_OK: *written is the number of octets written to out, at most 1,840.
+ * Refuses, in this order: 15 (len below LV_SESSION_OCTETS), 21 (not open, or no group held), 15 (out_len too small). */
+uint8_t lv_session_pour(uint8_t *session, size_t len, uint8_t *out, size_t out_len, size_t *written);
+
+/* Copies the group that a session holds out as a holding. The session stays as it is.
+ * Refuses, in this order: 15 (len below LV_SESSION_OCTETS, or holding_len below LV_HOLDING_OCTETS), 21 (not open, or no group
+ * held). */
+uint8_t lv_session_copy(const uint8_t *session, size_t len, uint8_t *holding, size_t holding_len);
+
+/* Ends a session, whatever the octets were: all LV_SESSION_OCTETS become zero.
+ * Refuses: 15 (len below LV_SESSION_OCTETS). */
+uint8_t lv_session_end(uint8_t *session, size_t len);
+
+/* Joins two holdings of one group: out holds every packet held in either.
+ * Refuses, in this order: 15 (a_len, b_len or out_len below LV_HOLDING_OCTETS), 21 (either holds no packet), 20, 14. */
+uint8_t lv_holding_join(const uint8_t *a, size_t a_len, const uint8_t *b, size_t b_len, uint8_t *out, size_t out_len);
+
+/* Pours a holding, copied or joined, as lv_session_pour does. The holding stays as it is.
+ * Refuses, in this order: 15 (len below LV_HOLDING_OCTETS), 21 (it holds no packet), 15 (out_len too small). */
+uint8_t lv_holding_pour(const uint8_t *holding, size_t len, uint8_t *out, size_t out_len, size_t *written);
+
 #ifdef __cplusplus
 }
 #endif

@@ -5,6 +5,8 @@
 //! puts fences of random octets around every buffer, so that a response shows
 //! what was written and what was left alone.
 
+pub mod sessions;
+
 use std::fmt::{self, Display, Formatter};
 
 use crate::inputs::Rng;
@@ -274,7 +276,7 @@ impl Agreed {
 /// there the image ends, and a memory checker sees a call that reads on.
 fn lent(octets: &[u8], rng: &mut Rng) -> Buffer {
     let (before, after) = (rng.between(0, FENCE), rng.pick(&[0, FENCE, FENCE, FENCE]));
-    fenced(before, octets, after, rng)
+    Buffer { for_writing: false, ..fenced(before, octets, after, rng) }
 }
 
 /// Octets lent for writing, at any address.
@@ -289,7 +291,7 @@ fn out_size(number: usize, rng: &mut Rng) -> Buffer {
 
 fn fenced(before: usize, octets: &[u8], after: usize, rng: &mut Rng) -> Buffer {
     let image = [&rng.octets(before), octets, &rng.octets(after)].concat();
-    Buffer { image, offset: before, len: octets.len() }
+    Buffer { image, offset: before, len: octets.len(), for_writing: true }
 }
 
 /// A call that was made.
@@ -319,13 +321,12 @@ impl Made<'_> {
     }
 
     /// Whether every octet is as it was but for those that may change: none on
-    /// a refusal, else what was lent for writing, which is all but the first
-    /// buffer. "Each refusal [...] changes nothing lent" (document 01, "Answers
-    /// by number").
+    /// a refusal, else what was lent for writing. "Each refusal [...] changes
+    /// nothing lent" (document 01, "Answers by number").
     fn kept(&self) -> bool {
-        let sides = self.request.buffers.iter().zip(&self.response.images);
-        sides.enumerate().all(|(place, (buffer, image))| {
-            let may_change = self.response.answer == 0 && place > 0;
+        let mut sides = self.request.buffers.iter().zip(&self.response.images);
+        sides.all(|(buffer, image)| {
+            let may_change = self.response.answer == 0 && buffer.for_writing;
             let (start, len) = (buffer.offset, if may_change { buffer.len } else { 0 });
             let end = start + len;
             image[..start] == buffer.image[..start] && image[end..] == buffer.image[end..]
@@ -351,7 +352,7 @@ pub fn changes_are_noticed(rng: &mut Rng) -> bool {
             packet_write_header_free(agreed, &octets, &output, rng),
             capture_record(&octets, &output, rng),
         ];
-        requests.iter().all(noticed)
+        requests.iter().chain(&sessions::small_requests(rng)).all(noticed)
     })
 }
 
@@ -369,7 +370,7 @@ fn noticed(request: &Request) -> bool {
         };
         let all_seen = request.buffers.iter().enumerate().all(|(place, buffer)| {
             let lent = buffer.offset..buffer.offset + buffer.len;
-            let may = |at| answer == 0 && place > 0 && lent.contains(&at);
+            let may = |at| answer == 0 && buffer.for_writing && lent.contains(&at);
             (0..buffer.image.len()).all(|at| changed_is_kept(place, at) == may(at))
         });
         all_seen && Made { request, response: &response }.kept()

@@ -1,7 +1,7 @@
 //! Compares the cases of a subject: fixed rows, whole families, seeded ones.
 
 use crate::inputs::Rng;
-use crate::library::{Fault, Library, Request};
+use crate::library::{Fault, Library, Request, Response};
 use crate::paper::Slip;
 use crate::report::Report;
 use crate::trial::{Case, Shown, Trial};
@@ -120,6 +120,28 @@ impl<'a> Comparison<'a> {
             report.failure(format_args!("{law}: no slip breaks it, or document 01 does"));
         }
         Ok(())
+    }
+
+    /// Calls the library, and gives its responses.
+    pub fn called(&mut self, requests: &[Request]) -> Result<Vec<Response>, Fault> {
+        let requests: Vec<&Request> = requests.iter().collect();
+        self.library.ask(&requests);
+        self.library.answers(&requests)
+    }
+
+    /// The slips to catch.
+    pub fn slips(&self) -> Vec<Slip> {
+        self.caught.iter().map(|caught| caught.slip).collect()
+    }
+
+    /// Counts a seeded case, or a fixed row, over which these slips show.
+    pub fn count(&mut self, shown: &[Slip], row: bool) {
+        for caught in self.caught.iter_mut().filter(|caught| shown.contains(&caught.slip)) {
+            match row {
+                true => caught.rows += 1,
+                false => caught.cases += 1,
+            }
+        }
     }
 
     /// Reports the slips of a subject.

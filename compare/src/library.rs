@@ -11,11 +11,13 @@ use std::sync::mpsc::{self, Receiver, RecvTimeoutError, Sender};
 use std::thread;
 use std::time::Duration;
 
-/// Memory for a call: it is lent `len` octets of the image, from `offset` on.
+/// Memory for a call: it is lent `len` octets of the image, from `offset` on, to
+/// read them or to write there too.
 pub struct Buffer {
     pub image: Vec<u8>,
     pub offset: usize,
     pub len: usize,
+    pub for_writing: bool,
 }
 
 /// A call to make. Scalars and buffers are in the order of its parameters.
@@ -195,7 +197,7 @@ impl Request {
         octets.extend([self.call, count(self.scalars.len())]);
         octets.extend(self.scalars.iter().flat_map(|scalar| scalar.to_le_bytes()));
         octets.push(count(self.buffers.len()));
-        for Buffer { image, offset, len } in &self.buffers {
+        for Buffer { image, offset, len, .. } in &self.buffers {
             for number in [image.len(), *offset, *len] {
                 put_u32(octets, number);
             }

@@ -5,8 +5,8 @@
 //! `inputs` what both are given. `trial` tries one case on all sides, `trips`
 //! gives to one call what came out of another, and `comparison` does both many
 //! times. Each subject has a module that runs its comparison: `payloads` (read),
-//! `recordings` (read and written), `packets` (written) and `captures`
-//! (recorded).
+//! `recordings` (read and written), `packets` (written), `captures` (recorded)
+//! and `sessions` (with holdings, in lent octets).
 //!
 //! The library is called by another program, `serve.c`. Compile that for the
 //! library's machine, with `include/` to find the header and `liblanding.a`
@@ -20,7 +20,7 @@
 //! the seed of the inputs. The status is 0 if the last line says that nothing
 //! differs, else 1, or 2 for other words than these.
 //!
-//! Sessions and holdings are compared by scripts (see `script`), which this
+//! Sessions and holdings are compared by scripts too (see `script`), which this
 //! program makes and answers without the library; `desk` has the words:
 //!
 //! ```text
@@ -54,6 +54,7 @@ mod reached;
 mod recordings;
 mod report;
 mod script;
+mod sessions;
 mod trial;
 mod trips;
 
@@ -111,5 +112,6 @@ fn compare(
     recordings::compare(seed, &mut library, report)?;
     packets::compare(seed, &mut library, report)?;
     captures::compare(seed, &mut library, report)?;
+    sessions::compare(seed, &mut library, report)?;
     library.end()
 }

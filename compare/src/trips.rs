@@ -1,8 +1,10 @@
 //! Round trips: what one call gives is given to another, and what comes back
 //! has to be what was sent.
 
+use crate::calls::sessions::Left;
 use crate::calls::{self, FrameOut, Told, WriteOut};
 use crate::inputs::frames::Entry;
+use crate::inputs::sessions::{Call, Shelf};
 use crate::inputs::Rng;
 use crate::library::{Fault, Library, Request, Response};
 use crate::paper::Slip;
@@ -47,6 +49,26 @@ impl Side<'_> {
             Side::Paper(slip) => input.paper(ROOM, *slip),
         };
         accepted(input.name(), octets)
+    }
+
+    /// What an accepted call on a shelf leaves; the shelf keeps it.
+    pub fn keep(&mut self, made: &Call, shelf: &mut Shelf) -> Result<Left, Stop> {
+        let left = match self {
+            Side::Library(library, rng) => {
+                call(library, &made.request(shelf, rng), calls::sessions::told)?
+            }
+            Side::Paper(slip) => {
+                let Told { answer, out, .. } = made.paper(shelf, *slip);
+                if answer == 0 {
+                    Ok(out)
+                } else {
+                    Err(answer)
+                }
+            }
+        };
+        let left = accepted(made.name(), left)?;
+        made.leave(&left, shelf);
+        Ok(left)
     }
 }
 

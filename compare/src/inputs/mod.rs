@@ -8,6 +8,7 @@ pub mod packets;
 pub mod payloads;
 pub mod recordings;
 pub mod scripts;
+pub mod sessions;
 
 /// Kinds of inputs: the name of each, and what makes one.
 type Kinds<T> = [(&'static str, fn(&mut Rng) -> T)];
@@ -42,6 +43,13 @@ pub fn rooms(rng: &mut Rng, needed: usize) -> Vec<usize> {
     let some = rng.between(0, needed);
     let more = needed + rng.between(2, 40);
     vec![0, some, needed.saturating_sub(1), needed, needed + 1, more]
+}
+
+/// Puts things in any order.
+pub fn mix<T>(rng: &mut Rng, things: &mut [T]) {
+    for last in (1..things.len()).rev() {
+        things.swap(last, rng.between(0, last));
+    }
 }
 
 /// Octets as document 01 writes them.

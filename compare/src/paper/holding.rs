@@ -11,8 +11,8 @@ use super::{room, Slip};
 /// A frame as it is held: its type and its body.
 #[derive(Clone, Debug, PartialEq, Eq)]
 pub struct HeldFrame {
-    kind: FrameType,
-    body: Vec<u8>,
+    pub kind: FrameType,
+    pub body: Vec<u8>,
 }
 
 /// The frames of one packet, 0 to B - 1.
@@ -24,7 +24,7 @@ pub type HeldPacket = Vec<HeldFrame>;
 #[derive(Clone, Debug, PartialEq, Eq)]
 pub struct Holding {
     pub group: Group,
-    packets: Vec<Option<HeldPacket>>,
+    pub packets: Vec<Option<HeldPacket>>,
 }
 
 impl HeldFrame {

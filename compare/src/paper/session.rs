@@ -8,15 +8,15 @@ use super::{Form, Limits, Slip};
 /// A session, never opened at first.
 #[derive(Clone, Debug, Default)]
 pub struct Session {
-    open: Option<Open>,
-    heard: Heard,
+    pub open: Option<Open>,
+    pub heard: Heard,
 }
 
 /// "Opening names the source and the agreed form."
 #[derive(Clone, Copy, Debug)]
-struct Open {
-    source: u32,
-    form: Form,
+pub struct Open {
+    pub source: u32,
+    pub form: Form,
 }
 
 /// "A box hands us source number [...], sequence number [...], timestamp [...]

@@ -211,6 +211,59 @@ slips! {
         FourteenBeforeTwenty => "14 comes before 20",
     }
 
+    /// In the octets of sessions and holdings.
+    LAYOUT {
+        NumbersLittleEndian => "numbers are little-endian",
+        TypesAsTheyAre => "types are written as they are",
+        PacketsFrameByFrame => "frames of a group lie in time order",
+        FlagAboveOneHeld => "a held flag above 1 counts as held",
+        FlagAboveOneNotHeld => "a held flag above 1 counts as not held",
+        OpenFlagAboveOneOpen => "an open flag above 1 counts as open",
+        FormOctetAboveOneTaken => "a session's form above 1 counts as interleaved",
+        PouredFlagAboveOneTaken => "a poured flag above 1 counts as 1",
+        UnsoundTaken => "a group is not judged",
+        LAboveSevenTaken => "an L above 7 counts as 7",
+        BOutOfRangeTaken => "a B out of range counts as the nearest in it",
+        PacketAboveLTaken => "a packet above L may be held",
+        HeldTypeNotJudged => "a type not in the table counts as an erasure",
+        RoomPastBodyNotJudged => "room past a body is not judged",
+        PlaceNotHeldNotJudged => "a place not held is not judged",
+        NoPacketTaken => "a group of no packet that is not all zero counts as none",
+        GroupOfAnotherSourceTaken => "a session's group may name another source",
+        SessionMaximaNotJudged => "the maxima of a session are not judged",
+        HeaderFreeSessionMaximaJudged => "the maxima of a header-free session are judged",
+        LastLNotJudged => "L of the last poured group is not judged",
+        LastBNotJudged => "B of the last poured group is not judged",
+        LastJudgedUnpoured => "the last poured group is judged where none was poured",
+        LastNotJudgedHeld => "the last poured group is not judged while one is held",
+        SpareJudged => "octets past the group are judged",
+        SpareKept => "octets past the group are kept",
+        HeldForgetsLast => "beginning a group forgets the last poured one",
+    }
+
+    /// In the calls on lent octets.
+    LENT {
+        ShortTaken => "a short buffer is taken",
+        Short2047Taken => "2,047 octets are enough",
+        Long2049Refused => "2,049 octets answer 15",
+        OnlyFirstLengthJudged => "only the first buffer's length is judged",
+        ShortJudgedLast => "15 for a short buffer comes after all other refusals",
+        PastOctetsCleared => "octets past 2,048 are cleared",
+        OpeningLooks => "opening answers 21 for octets that are no session",
+        EndingLeavesGroup => "ending leaves the group's octets",
+        EndingLeavesLast => "ending leaves the last poured group",
+        EndingOnlyOpen => "ending leaves octets that are not open as they are",
+        RefusedOfferEndsGroup => "a refused offer drops the group",
+        RefusedOfferTidies => "a refused offer clears the octets that are not looked at",
+        RepeatNotWritten => "an accepted repeat leaves the octets that are not looked at",
+        CopyClears => "copying clears the session",
+        RefusedJoinWrites => "a refused joining writes its output",
+        RefusedCopyWrites => "a refused copying clears the holding",
+        LostNotSet => "an accepted offer leaves the number of lost frames",
+        LostSetOnlyIfAny => "the number of lost frames is set only if it is not 0",
+        RefusedLostCleared => "a refused offer sets the number of lost frames to 0",
+    }
+
     /// In taking a capture apart.
     CAPTURE {
         CaptureOf65536Bad => "a capture of 65,536 octets is bad",

@@ -5,7 +5,7 @@ mod readers;
 mod writers;
 
 pub use readers::{Contents, Out, ReadCase, Readable};
-pub use writers::{Writable, WriteCase};
+pub use writers::{over, show, Writable, WriteCase};
 
 use std::fmt::{self, Display, Formatter};
 

@@ -118,7 +118,7 @@ impl<I: Writable> Case for WriteCase<I> {
 }
 
 /// What is shown for an outcome.
-fn show(before: &WriteOut, outcome: Result<Vec<u8>, u8>, slip: Slip) -> Told<WriteOut> {
+pub fn show(before: &WriteOut, outcome: Result<Vec<u8>, u8>, slip: Slip) -> Told<WriteOut> {
     match outcome {
         Ok(octets) => Told { answer: 0, out: written(before, &octets, slip), kept: true },
         Err(refusal) => Told { answer: refusal, out: left_alone(before, slip), kept: true },
@@ -148,7 +148,7 @@ fn left_alone(before: &WriteOut, slip: Slip) -> WriteOut {
 }
 
 /// Octets written over the first of others, as far as these go.
-fn over(octets: &[u8], others: &[u8]) -> Vec<u8> {
+pub fn over(octets: &[u8], others: &[u8]) -> Vec<u8> {
     let shared = octets.len().min(others.len());
     [&octets[..shared], &others[shared..]].concat()
 }

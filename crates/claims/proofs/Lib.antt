@@ -10,5 +10,6 @@ pub mod SendingClaims
 pub mod BoxesClaims
 pub mod MissingClaims
 pub mod CaptureClaims
+pub mod LentClaims
 pub mod Outcomes
 pub mod IdleClaims

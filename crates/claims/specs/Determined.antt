@@ -10,6 +10,42 @@ use borrow.Fn.Kinds.{PK, RK, Dens, resT, endedOf, Out}
 use Rattle.landing.specs.Host.{PacketTold, packetTold, PlaceTold, placeTold, CountTold, countTold, WriteTold, writeTold}
 use Rattle.frame.specs.declared.Written.{Written}
 use Rattle.session.specs.declared.Session.{Session}
+use Rattle.octets.proofs.copy_shifted.Kinds as octets-copy-shifted-kinds
+use Rattle.octets.proofs.copy_shifted.Reads as octets-copy-shifted
+use Rattle.octets.proofs.put_two.Kinds as octets-put-two-kinds
+use Rattle.octets.proofs.put_two.Reads as octets-put-two
+use Rattle.octets.proofs.put_four.Kinds as octets-put-four-kinds
+use Rattle.octets.proofs.put_four.Reads as octets-put-four
+use Rattle.lending.proofs.open.Kinds as lending-open-kinds
+use Rattle.lending.proofs.open.Reads as lending-open
+use Rattle.lending.proofs.offer.Kinds as lending-offer-kinds
+use Rattle.lending.proofs.offer.Reads as lending-offer
+use Rattle.lending.proofs.pour.Kinds as lending-pour-kinds
+use Rattle.lending.proofs.pour.Reads as lending-pour
+use Rattle.lending.proofs.copy_out.Kinds as lending-copy-out-kinds
+use Rattle.lending.proofs.copy_out.Reads as lending-copy-out
+use Rattle.lending.proofs.end.Kinds as lending-end-kinds
+use Rattle.lending.proofs.end.Reads as lending-end
+use Rattle.lending.proofs.join.Kinds as lending-join-kinds
+use Rattle.lending.proofs.join.Reads as lending-join
+use Rattle.lending.proofs.pour_holding.Kinds as lending-pour-holding-kinds
+use Rattle.lending.proofs.pour_holding.Reads as lending-pour-holding
+use Rattle.landing.proofs.lv_session_open.Kinds as landing-lv-session-open-kinds
+use Rattle.landing.proofs.lv_session_open.Reads as landing-lv-session-open
+use Rattle.landing.proofs.lv_session_offer.Kinds as landing-lv-session-offer-kinds
+use Rattle.landing.proofs.lv_session_offer.Reads as landing-lv-session-offer
+use Rattle.landing.proofs.lv_session_pour.Kinds as landing-lv-session-pour-kinds
+use Rattle.landing.proofs.lv_session_pour.Reads as landing-lv-session-pour
+use Rattle.landing.proofs.lv_session_copy.Kinds as landing-lv-session-copy-kinds
+use Rattle.landing.proofs.lv_session_copy.Reads as landing-lv-session-copy
+use Rattle.landing.proofs.lv_session_end.Kinds as landing-lv-session-end-kinds
+use Rattle.landing.proofs.lv_session_end.Reads as landing-lv-session-end
+use Rattle.landing.proofs.lv_holding_join.Kinds as landing-lv-holding-join-kinds
+use Rattle.landing.proofs.lv_holding_join.Reads as landing-lv-holding-join
+use Rattle.landing.proofs.lv_holding_pour.Kinds as landing-lv-holding-pour-kinds
+use Rattle.landing.proofs.lv_holding_pour.Reads as landing-lv-holding-pour
+use Rattle.holding.specs.declared.Answer.{Answer}
+use Rattle.session.specs.declared.Taken.{Taken}
 use Rattle.octets.proofs.copy.Kinds as octets-copy-kinds
 use Rattle.octets.proofs.copy.Reads as octets-copy
 use Rattle.octets.proofs.fill.Kinds as octets-fill-kinds
@@ -151,6 +187,9 @@ pub record Determined : Type 0 where
   pub octetsFill : OutcomeFixed 1 octets-fill-kinds.ps octets-fill-kinds.r octets-fill.Post (List ℕ) (λ κs x s. now (s .0))
   pub octetsTwo : AnswerFixed 1 octets-two-kinds.ps octets-two-kinds.r octets-two.Post
   pub octetsFour : AnswerFixed 1 octets-four-kinds.ps octets-four-kinds.r octets-four.Post
+  pub octetsCopyShifted : OutcomeFixed 2 octets-copy-shifted-kinds.ps octets-copy-shifted-kinds.r octets-copy-shifted.Post (List ℕ) (λ κs x s. now (s .0))
+  pub octetsPutTwo : OutcomeFixed 1 octets-put-two-kinds.ps octets-put-two-kinds.r octets-put-two.Post (List ℕ) (λ κs x s. now (s .0))
+  pub octetsPutFour : OutcomeFixed 1 octets-put-four-kinds.ps octets-put-four-kinds.r octets-put-four.Post (List ℕ) (λ κs x s. now (s .0))
   pub octetsSame : AnswerFixed 2 octets-same-kinds.ps octets-same-kinds.r octets-same.Post
   pub octetsZeros : AnswerFixed 1 octets-zeros-kinds.ps octets-zeros-kinds.r octets-zeros.Post
   pub octetsAny : AnswerFixed 1 octets-any-kinds.ps octets-any-kinds.r octets-any.Post
@@ -207,3 +246,17 @@ pub record Determined : Type 0 where
   pub captureRoom : AnswerFixed 0 capture-room-kinds.ps capture-room-kinds.r capture-room.Post
   pub captureRecord : OutcomeFixed 2 capture-record-kinds.ps capture-record-kinds.r capture-record.Post (Outcome × List ℕ) (λ κs x s. (x, now (s .1 .0)))
   pub lvCaptureRecord : OutcomeFixed 3 landing-lv-capture-record-kinds.ps landing-lv-capture-record-kinds.r landing-lv-capture-record.Post WriteTold (λ κs x s. writeTold x (now (s .1 .1 .0)) (now (s .1 .0)))
+  pub lendingOpen : OutcomeFixed 1 lending-open-kinds.ps lending-open-kinds.r lending-open.Post (Answer × List ℕ) (λ κs x s. (x, now (s .0)))
+  pub lendingOffer : OutcomeFixed 2 lending-offer-kinds.ps lending-offer-kinds.r lending-offer.Post (Taken × List ℕ) (λ κs x s. (x, now (s .0)))
+  pub lendingPour : OutcomeFixed 2 lending-pour-kinds.ps lending-pour-kinds.r lending-pour.Post (Written × List ℕ × List ℕ) (λ κs x s. (x, now (s .0), now (s .1 .0)))
+  pub lendingCopyOut : OutcomeFixed 2 lending-copy-out-kinds.ps lending-copy-out-kinds.r lending-copy-out.Post (Answer × List ℕ) (λ κs x s. (x, now (s .1 .0)))
+  pub lendingEnd : OutcomeFixed 1 lending-end-kinds.ps lending-end-kinds.r lending-end.Post (Answer × List ℕ) (λ κs x s. (x, now (s .0)))
+  pub lendingJoin : OutcomeFixed 3 lending-join-kinds.ps lending-join-kinds.r lending-join.Post (Answer × List ℕ) (λ κs x s. (x, now (s .1 .1 .0)))
+  pub lendingPourHolding : OutcomeFixed 2 lending-pour-holding-kinds.ps lending-pour-holding-kinds.r lending-pour-holding.Post (Written × List ℕ) (λ κs x s. (x, now (s .1 .0)))
+  pub lvSessionOpen : OutcomeFixed 1 landing-lv-session-open-kinds.ps landing-lv-session-open-kinds.r landing-lv-session-open.Post (ℕ × List ℕ) (λ κs x s. (x, now (s .1 .1 .1 .1 .0)))
+  pub lvSessionOffer : OutcomeFixed 3 landing-lv-session-offer-kinds.ps landing-lv-session-offer-kinds.r landing-lv-session-offer.Post (CountTold × List ℕ) (λ κs x s. (countTold x (now (s .1 .1 .1 .1 .1 .0)), now (s .0)))
+  pub lvSessionPour : OutcomeFixed 3 landing-lv-session-pour-kinds.ps landing-lv-session-pour-kinds.r landing-lv-session-pour.Post (WriteTold × List ℕ) (λ κs x s. (writeTold x (now (s .1 .1 .0)) (now (s .1 .0)), now (s .0)))
+  pub lvSessionCopy : OutcomeFixed 2 landing-lv-session-copy-kinds.ps landing-lv-session-copy-kinds.r landing-lv-session-copy.Post (ℕ × List ℕ) (λ κs x s. (x, now (s .1 .0)))
+  pub lvSessionEnd : OutcomeFixed 1 landing-lv-session-end-kinds.ps landing-lv-session-end-kinds.r landing-lv-session-end.Post (ℕ × List ℕ) (λ κs x s. (x, now (s .0)))
+  pub lvHoldingJoin : OutcomeFixed 3 landing-lv-holding-join-kinds.ps landing-lv-holding-join-kinds.r landing-lv-holding-join.Post (ℕ × List ℕ) (λ κs x s. (x, now (s .1 .1 .0)))
+  pub lvHoldingPour : OutcomeFixed 3 landing-lv-holding-pour-kinds.ps landing-lv-holding-pour-kinds.r landing-lv-holding-pour.Post WriteTold (λ κs x s. writeTold x (now (s .1 .1 .0)) (now (s .1 .0)))

@@ -9,5 +9,6 @@ pub mod Missing
 pub mod Sending
 pub mod Boxes
 pub mod Captures
+pub mod Lent
 pub mod Idle
 pub mod Determined

@@ -1,7 +1,11 @@
 -- What the C calls tell, by what was read. Assumes nothing.
 use Prim.Native.Nat.{ℕ}
+use Prim.Native.Nat.{_≤_, _<_}
 use mathlib.Core.Path.{_≡_, ap, ap₂, _∙_}
 use mathlib.Core.List.{List}
+use mathlib.Core.Path.{refl}
+use lib.ListN.{length}
+use borrow.Author.Tests.{lt-ltb, le-ltb}
 use Rattle.frame.specs.Answers.{numberOf}
 use Rattle.frame.specs.Table.{Vocoder}
 use Rattle.frame.specs.Places.{locatedOf}
@@ -22,7 +26,14 @@ use Rattle.recording.specs.declared.Counted.the-variants as counted
 use Rattle.capture.specs.Run.{recorded, outputOf}
 use Rattle.capture.specs.declared.Outcome.{Outcome}
 use Rattle.capture.specs.declared.Outcome.the-variants as outcome
-use Rattle.landing.specs.Host.{readNamed, givenNamed, packetTold, packetAfter, placeTold, placeAfter, countTold, countAfter, writtenAfter, withOutput, writeTold, writeAfter, outcomeAfter, recordAfter}
+use Rattle.frame.specs.Outputs.{writtenOf}
+use Rattle.frame.specs.declared.Refusal.the-variants.{NoRoom}
+use Rattle.holding.specs.declared.Answer.{Answer}
+use Rattle.holding.specs.declared.Answer.the-variants as answer
+use Rattle.session.specs.declared.Taken.{Taken}
+use Rattle.session.specs.declared.Taken.the-variants as taken
+use Rattle.lending.specs.Calls.{isShort, openAnswer, openOctets, pourOctets}
+use Rattle.landing.specs.Host.{readNamed, givenNamed, packetTold, packetAfter, placeTold, placeAfter, countTold, countAfter, writtenAfter, withOutput, writeTold, writeAfter, outcomeAfter, recordAfter, answerNumber, takenAfter, openNamed, openedNamed}
 use Rattle.landing.specs.declared.Named.{Named}
 use Rattle.landing.specs.declared.Named.the-variants.{Agreed, Refused}
 
@@ -98,3 +109,46 @@ capture-recorded o w a n n₀ e q = rw e q
 pub capture-told : (v : Vocoder) (opening c before after : List ℕ) (o : Outcome) (a n n₀ : ℕ) → (o ≡ recorded v opening c before) × (after ≡ outputOf v opening c before) → countTold a n ≡ outcomeAfter o n₀ → writeTold a n after ≡ recordAfter v opening c n₀ before
 unfolding recordAfter
 capture-told v opening c before after o a n n₀ x e = ap₂ withOutput (e ∙ ap (λ (y : Outcome). outcomeAfter y n₀) (x .0)) (x .1)
+
+-- what is told of a call that gives no number
+pub answer-done : (a : Answer) → a ≡ answer.Done → 0 ≡ answerNumber a
+unfolding answerNumber
+answer-done a e = rw e
+
+pub answer-refused : (a : Answer) (r : Refusal) (n : ℕ) → a ≡ answer.Refused r → n ≡ numberOf r → n ≡ answerNumber a
+unfolding answerNumber
+answer-refused a r n e q = rw e q
+
+-- of an offer
+pub taken-refused : (a : Taken) (r : Refusal) (m n : ℕ) → a ≡ taken.Refused r → m ≡ numberOf r → countTold m n ≡ takenAfter a n
+unfolding takenAfter
+taken-refused a r m n e q = rw e (ap (λ (i : ℕ). countTold i n) q)
+
+pub taken-accepted : (a : Taken) (n n₀ : ℕ) → a ≡ taken.Accepted n → countTold 0 n ≡ takenAfter a n₀
+unfolding takenAfter
+taken-accepted a n n₀ e = rw e
+
+-- an answer and lent octets, told on
+pub told-on : (a b : Answer) (n : ℕ) (o w : List ℕ) → n ≡ answerNumber a → (a ≡ b) × (o ≡ w) → (n ≡ answerNumber b) × (o ≡ w)
+told-on a b n o w e x = (e ∙ ap answerNumber (x .0), x .1)
+
+pub taken-on : (a b : Taken) (m n n₀ : ℕ) (o w : List ℕ) → countTold m n ≡ takenAfter a n₀ → (a ≡ b) × (o ≡ w) → (countTold m n ≡ takenAfter b n₀) × (o ≡ w)
+taken-on a b m n n₀ o w e x = (e ∙ ap (λ (t : Taken). takenAfter t n₀) (x .0), x .1)
+
+pub pour-on : (made : Made) (o o′ before after : List ℕ) (w : Written) (a n n₀ : ℕ) → Writes made before w after × (o′ ≡ pourOctets o w) → countTold a n ≡ writtenAfter w n₀
+    → (writeTold a n after ≡ writeAfter made n₀ before) × (o′ ≡ pourOctets o (writtenOf made before))
+pour-on made o o′ before after w a n n₀ x e = (write-told made before w after a n n₀ (x .0) e, x .1 ∙ ap (pourOctets o) (x .0 .answer))
+
+-- opening in a named form
+module _ (named : Named) (source : ℕ) (o : List ℕ) where
+  pub open-agreed : (g : Form) (a : Answer) (after : List ℕ) → named ≡ Agreed g → (a ≡ openAnswer o source g) × (after ≡ openOctets o source g) → (a ≡ openNamed named source o) × (after ≡ openedNamed named source o)
+  unfolding openNamed openedNamed
+  open-agreed g a after e x = rw e x
+
+  pub open-short : (r : Refusal) → named ≡ Refused r → length o < 2048 → (answer.Refused NoRoom ≡ openNamed named source o) × (o ≡ openedNamed named source o)
+  unfolding openNamed openedNamed isShort
+  open-short r e h = rw e (simp (lt-ltb _ _ h), refl)
+
+  pub open-unnamed : (r : Refusal) → named ≡ Refused r → 2048 ≤ length o → (answer.Refused r ≡ openNamed named source o) × (o ≡ openedNamed named source o)
+  unfolding openNamed openedNamed isShort
+  open-unnamed r e h = rw e (simp (le-ltb _ _ h), refl)

@@ -8,7 +8,7 @@ use Rattle.frame.specs.Table.{Vocoder}
 use Rattle.frame.specs.Places.{Given}
 use Rattle.frame.specs.Places as places
 use Rattle.frame.specs.declared.Form.the-variants.{HeaderFree, Interleaved}
-use Rattle.frame.specs.declared.Refusal.the-variants.{NotApplicable}
+use Rattle.frame.specs.declared.Refusal.the-variants.{NotApplicable, NoRoom}
 use Rattle.frame.specs.declared.Located.{Located}
 use Rattle.frame.specs.declared.Located.the-variants as located
 use Rattle.payload.specs.Payload.{Reading, readAs}
@@ -26,6 +26,11 @@ use Rattle.recording.specs.declared.Counted.the-variants as counted
 use Rattle.capture.specs.Run.{recorded, outputOf}
 use Rattle.capture.specs.declared.Outcome.{Outcome}
 use Rattle.capture.specs.declared.Outcome.the-variants as outcome
+use Rattle.holding.specs.declared.Answer.{Answer}
+use Rattle.holding.specs.declared.Answer.the-variants as answer
+use Rattle.session.specs.declared.Taken.{Taken}
+use Rattle.session.specs.declared.Taken.the-variants as taken
+use Rattle.lending.specs.Calls.{isShort, openAnswer, openOctets}
 use Rattle.landing.specs.declared.Named.{Named}
 use Rattle.landing.specs.declared.Named.the-variants.{Agreed, Refused}
 
@@ -100,3 +105,22 @@ outcomeAfter (outcome.Recorded w) n₀ = writtenAfter w n₀
 
 unfoldable pub recordAfter : Vocoder → List ℕ → List ℕ → ℕ → List ℕ → WriteTold
 recordAfter v opening c n₀ out = withOutput (outcomeAfter (recorded v opening c out) n₀) (outputOf v opening c out)
+
+-- what a host sees of a call that gives no number
+unfoldable pub answerNumber : Answer → ℕ
+answerNumber answer.Done = 0
+answerNumber (answer.Refused r) = numberOf r
+
+-- and of an offer: 0 and the lost frames, or the refusal's number
+unfoldable pub takenAfter : Taken → ℕ → CountTold
+takenAfter (taken.Accepted n) n₀ = countTold 0 n
+takenAfter (taken.Refused r) n₀ = countTold (numberOf r) n₀
+
+-- a session opened in the form that the host names: 15 before 21
+unfoldable pub openNamed : Named → ℕ → List ℕ → Answer
+openNamed (Agreed f) source o = openAnswer o source f
+openNamed (Refused r) source o = cond (isShort o) (answer.Refused NoRoom) (answer.Refused r)
+
+unfoldable pub openedNamed : Named → ℕ → List ℕ → List ℕ
+openedNamed (Agreed f) source o = openOctets o source f
+openedNamed (Refused r) source o = o

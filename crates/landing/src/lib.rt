@@ -5,8 +5,10 @@ use frame::Limits;
 use frame::Located;
 use frame::Refusal;
 use frame::Written;
+use holding::Answer;
 use payload::Contents;
 use recording::Counted;
+use session::Taken;
 ghost use mathlib.Core.Path.{_≡_};
 ghost use Rattle.frame.specs.Table.{evrc};
 ghost use Rattle.frame.specs.Places.{locatedOf};
@@ -31,7 +33,13 @@ ghost use Rattle.landing.specs.Host.{
   headerFreeNamed,
   outcomeAfter,
   recordAfter,
+  answerNumber,
+  takenAfter,
+  openNamed,
+  openedNamed,
 };
+ghost use Rattle.frame.specs.Outputs.{writtenOf};
+ghost use Rattle.lending.specs.Calls.{offerAnswer, offerOctets, pourOf, pourOctets, copyAnswer, copyOctets, endAnswer, endOctets, joinAnswer, joinOctets, pourHeld};
 
 // The agreed form that a host names by a number and two maxima, or the refusal.
 pub enum Named {
@@ -274,4 +282,114 @@ pub extern "C" fn lv_capture_record(capture: &[u8], out: &mut [u8], written: &mu
     ensures { λ r. ⌜ writeTold r (now (written .exit)) (now (out .exit)) ≡ recordAfter evrc evrcOpening (now (capture .entry)) (now (written .entry)) (now (out .entry)) ⌝ }
 {
     tell_recorded(capture::record(capture, out), written)
+}
+
+// ---- sessions and holdings, in octets that the host lends
+
+fn tell(answer: Answer) -> u8
+    ensures { λ r. ⌜ r ≡ answerNumber answer ⌝ }
+{
+    match answer {
+        Answer::Done => 0,
+        Answer::Refused(reason) => reason.number(),
+    }
+}
+
+fn tell_taken(answer: Taken, lost: &mut usize) -> u8
+    ensures { λ r. ⌜ countTold r (now (lost .exit)) ≡ takenAfter answer (now (lost .entry)) ⌝ }
+{
+    match answer {
+        Taken::Refused(reason) => reason.number(),
+        Taken::Accepted(n) => {
+            *lost = n;
+            0
+        }
+    }
+}
+
+fn open_named(source: u32, form: u8, max_l: u8, max_b: u8, session: &mut [u8]) -> Answer
+    ensures { λ r. ⌜ (r ≡ openNamed (namedForm form «max_l» «max_b») source (now (session .entry))) × (now (session .exit) ≡ openedNamed (namedForm form «max_l» «max_b») source (now (session .entry))) ⌝ }
+{
+    let named = form_named(form, max_l, max_b);
+    match named {
+        Named::Agreed(agreed) => lending::open(session, source, agreed),
+        Named::Refused(reason) => {
+            if session.len() < lending::OCTETS {
+                return Answer::Refused(Refusal::NoRoom);
+            }
+            Answer::Refused(reason)
+        }
+    }
+}
+
+// Opens a session.
+#[no_mangle]
+pub extern "C" fn lv_session_open(
+    source: u32,
+    form: u8,
+    max_l: u8,
+    max_b: u8,
+    session: &mut [u8],
+) -> u8
+    ensures { λ r. ⌜ (r ≡ answerNumber (openNamed (namedForm form «max_l» «max_b») source (now (session .entry)))) × (now (session .exit) ≡ openedNamed (namedForm form «max_l» «max_b») source (now (session .entry))) ⌝ }
+{
+    tell(open_named(source, form, max_l, max_b, session))
+}
+
+// Offers a packet to a session.
+#[no_mangle]
+pub extern "C" fn lv_session_offer(
+    session: &mut [u8],
+    source: u32,
+    sequence: u16,
+    timestamp: u32,
+    payload: &[u8],
+    lost: &mut usize,
+) -> u8
+    ensures { λ r. ⌜ (countTold r (now (lost .exit)) ≡ takenAfter (offerAnswer evrc (now (session .entry)) source sequence timestamp (now (payload .entry))) (now (lost .entry))) × (now (session .exit) ≡ offerOctets evrc (now (session .entry)) source sequence timestamp (now (payload .entry))) ⌝ }
+{
+    tell_taken(
+        lending::offer(session, source, sequence, timestamp, payload),
+        lost,
+    )
+}
+
+// Pours the held group of a session, and ends it.
+#[no_mangle]
+pub extern "C" fn lv_session_pour(session: &mut [u8], out: &mut [u8], written: &mut usize) -> u8
+    ensures { λ r. ⌜ (writeTold r (now (written .exit)) (now (out .exit)) ≡ writeAfter (pourOf evrc (now (session .entry))) (now (written .entry)) (now (out .entry))) × (now (session .exit) ≡ pourOctets (now (session .entry)) (writtenOf (pourOf evrc (now (session .entry))) (now (out .entry)))) ⌝ }
+{
+    tell_written(lending::pour(session, out), written)
+}
+
+// Copies the held group of a session out.
+#[no_mangle]
+pub extern "C" fn lv_session_copy(session: &[u8], holding: &mut [u8]) -> u8
+    ensures { λ r. ⌜ (r ≡ answerNumber (copyAnswer evrc (now (session .entry)) (now (holding .entry)))) × (now (holding .exit) ≡ copyOctets evrc (now (session .entry)) (now (holding .entry))) ⌝ }
+{
+    tell(lending::copy_out(session, holding))
+}
+
+// Ends a session.
+#[no_mangle]
+pub extern "C" fn lv_session_end(session: &mut [u8]) -> u8
+    ensures { λ r. ⌜ (r ≡ answerNumber (endAnswer (now (session .entry)))) × (now (session .exit) ≡ endOctets (now (session .entry))) ⌝ }
+{
+    tell(lending::end(session))
+}
+
+// Joins two holdings.
+#[no_mangle]
+pub extern "C" fn lv_holding_join(a: &[u8], b: &[u8], out: &mut [u8]) -> u8
+    ensures { λ r. ⌜ (r ≡ answerNumber (joinAnswer evrc (now (a .entry)) (now (b .entry)) (now (out .entry)))) × (now (out .exit) ≡ joinOctets evrc (now (a .entry)) (now (b .entry)) (now (out .entry))) ⌝ }
+{
+    tell(lending::join(a, b, out))
+}
+
+// Pours a holding.
+#[no_mangle]
+pub extern "C" fn lv_holding_pour(holding: &[u8], out: &mut [u8], written: &mut usize) -> u8
+    ensures { λ r. ⌜ writeTold r (now (written .exit)) (now (out .exit)) ≡ writeAfter (pourHeld evrc (now (holding .entry))) (now (written .entry)) (now (out .entry)) ⌝ }
+{
+    tell_written(lending::pour_holding(holding, out), written)
 }

@@ -1,16 +1,16 @@
 -- Laws of lists of octets. Assumes nothing.
-use Prim.Native.Nat.{ℕ, zero, suc, _+_, _-_, _*_, _≤_, _<_}
+use Prim.Native.Nat.{ℕ, zero, suc, _+_, _-_, _*_, _/_, _%_, _≤_, _<_}
 use mathlib.Core.Bool.{Bool, true, false, _&&_}
 use mathlib.Core.Path.{_≡_, refl, sym, ap, _∙_}
-use mathlib.Core.List.{List, [], _∷_, _++_, append-assoc, append-nil}
+use mathlib.Core.List.{List, [], _∷_, _++_, map, append-assoc, append-nil}
 use native.Mathlib.Nat.{add-zero, sub-zero, zero-sub}
 use native.Mathlib.Numerals.{add-one}
 use native.Mathlib.Omega.{arith}
-use lib.ListN.{take-append-drop, length-take, length-drop, length-append, length-replicate, getD-replicate, length, take, drop, getD, set, replicate, drop-of-length-le}
+use lib.ListN.{length-map, take-append-drop, length-take, length-drop, length-append, length-set, length-replicate, getD-replicate, length, take, drop, getD, set, replicate, drop-of-length-le}
 use lib.Seq.{take-nil, take-at, drop-at, take-append-le, take-take, drop-append-add, drop-drop, drop-cons, length-take-le, paste, paste-suc, take-all}
 use lib.Dec.{eqb}
 use borrow.Author.Tests.{eq-eqb, ne-eqb, eqb-true}
-use Rattle.octets.specs.Octets.{over, sameOctets, allZero, anySet, twoAt, fourAt}
+use Rattle.octets.specs.Octets.{over, sameOctets, allZero, anySet, twoAt, fourAt, twoOctets, fourOctets}
 use Rattle.octets.proofs.Logic.{apart, both-true}
 
 -- ---- sameOctets
@@ -120,6 +120,21 @@ fill-all d at n x dst i e h k =
     let l : length (replicate n x) ≡ n = length-replicate n x in
     copy-all d at (replicate n x) dst i e (omega arith) (omega arith)
 
+-- a loop that writes s over d, each element changed by f, at i
+pub changed-at : {A B : Type 0} (f : A → B) (s : List A) (i : ℕ) (a : A) (b : B) → i < length s → getD (map f s) i b ≡ f (getD s i a)
+changed-at f [] i a b h = absurd (omega arith)
+changed-at f (x ∷ xs) zero a b h = refl
+changed-at f (x ∷ xs) (suc i) a b h = changed-at f xs i a b (omega arith)
+
+pub change-more : {A : Type 0} (f : A → ℕ) (a : A) (d : List ℕ) (at : ℕ) (s : List A) (dst : List ℕ) (i y : ℕ) → dst ≡ paste d at (map f s) i → at + length s ≤ length d → i < length s → y ≡ f (getD s i a)
+    → set dst (at + i) y ≡ paste d at (map f s) (i + 1)
+change-more f a d at s dst i y e hd hs q =
+    let l = length-map s f in
+    ap (set dst (at + i)) (q ∙ sym (changed-at f s i a 0 hs)) ∙ copy-more d at (map f s) dst i e (omega arith) (omega arith)
+
+pub change-all : {A : Type 0} (f : A → ℕ) (d : List ℕ) (at : ℕ) (s : List A) (dst : List ℕ) (i : ℕ) → dst ≡ paste d at (map f s) i → i ≤ length s → length s ≤ i → dst ≡ over d at (map f s)
+change-all f d at s dst i e h k = let l = length-map s f in copy-all d at (map f s) dst i e (omega arith) (omega arith)
+
 -- one list written behind another is both written together
 pub over-append : (d : List ℕ) (at : ℕ) (xs ys : List ℕ) → at ≤ length d → over (over d at xs) (at + length xs) ys ≡ over d at (xs ++ ys)
 unfolding over
@@ -188,6 +203,19 @@ set-over (y ∷ d) zero x h = refl
 set-over (y ∷ d) (suc i) x h =
     let e : suc i + 1 ≡ suc (i + 1) = omega arith in
     rw e (ap (λ (l : List ℕ). y ∷ l) (set-over d i x (omega arith)))
+
+-- two octets stored, and two numbers of two octets
+pub put-two-is : (d : List ℕ) (at x : ℕ) → at + 2 ≤ length d → set (set d at (x / 256)) (at + 1) (x % 256) ≡ over d at (twoOctets x)
+unfolding twoOctets
+put-two-is d at x h =
+    let a : at < length d = omega arith in
+    let b : at + 1 < length (set d at (x / 256)) = omega (arith, length-set d at (x / 256)) in
+    set-over (set d at (x / 256)) (at + 1) (x % 256) b ∙ ap (λ (e : List ℕ). over e (at + 1) (x % 256 ∷ [])) (set-over d at (x / 256) a)
+    ∙ over-append d at (x / 256 ∷ []) (x % 256 ∷ []) (omega arith)
+
+pub put-four-is : (d e f : List ℕ) (at x : ℕ) → at + 4 ≤ length d → e ≡ over d at (twoOctets (x / 65536)) → f ≡ over e (at + 2) (twoOctets (x % 65536)) → f ≡ over d at (fourOctets x)
+unfolding twoOctets fourOctets
+put-four-is d e f at x h p q = q ∙ ap (λ (l : List ℕ). over l (at + 2) (twoOctets (x % 65536))) p ∙ over-append d at (twoOctets (x / 65536)) (twoOctets (x % 65536)) (omega arith)
 
 -- ---- a part that goes to the end, `&s[n..]`
 pub to-the-end : (p : List ℕ) (n : ℕ) → take (length p - n) (drop n p) ≡ drop n p

@@ -1,5 +1,5 @@
 -- Lists of octets, as the contracts speak of them. Document 01 has no section on these: they are words for its others.
-use Prim.Native.Nat.{ℕ, _+_, _*_}
+use Prim.Native.Nat.{ℕ, _+_, _*_, _/_, _%_}
 use mathlib.Core.Bool.{Bool, true, false, _&&_}
 use mathlib.Core.List.{List, [], _∷_, _++_}
 use lib.ListN.{length, take, drop, getD}
@@ -27,9 +27,20 @@ anySet [] = false
 anySet (true ∷ ts) = true
 anySet (false ∷ ts) = anySet ts
 
+-- an octet with another added, modulo 256
+abbrev pub shifted : ℕ → ℕ → ℕ
+shifted by x = (x + by) % 256
+
 -- the big-endian number of two octets, and of four, from index `at` on
 unfoldable pub twoAt : List ℕ → ℕ → ℕ
 twoAt s at = getD s at 0 * 256 + getD s (at + 1) 0
 
 unfoldable pub fourAt : List ℕ → ℕ → ℕ
 fourAt s at = twoAt s at * 65536 + twoAt s (at + 2)
+
+-- a number as two octets, and as four
+unfoldable pub twoOctets : ℕ → List ℕ
+twoOctets x = x / 256 ∷ x % 256 ∷ []
+
+unfoldable pub fourOctets : ℕ → List ℕ
+fourOctets x = twoOctets (x / 65536) ++ twoOctets (x % 65536)

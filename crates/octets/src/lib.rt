@@ -1,8 +1,9 @@
-// Octets in slices: copied, filled, compared, tested for zero, and read as numbers; flags, tested for one that is set.
+// Octets in slices: copied, filled, compared, tested for zero, read and written as numbers; flags, tested for one that is set.
 ghost use mathlib.Core.Path.{_≡_};
+ghost use mathlib.Core.List.{map};
 ghost use Prim.Native.Nat.{_+_, _*_, _≤_};
 ghost use lib.ListN.{length, replicate};
-ghost use Rattle.octets.specs.Octets.{over, sameOctets, allZero, anySet, twoAt, fourAt};
+ghost use Rattle.octets.specs.Octets.{over, sameOctets, allZero, anySet, shifted, twoAt, fourAt, twoOctets, fourOctets};
 
 // internal: a caller has tested the room before the first octet is written.
 // Copies src over dst from index at on.
@@ -26,6 +27,19 @@ pub fn fill(dst: &mut [u8], at: usize, n: usize, x: u8)
     let mut i = 0;
     while i < n {
         dst[at + i] = x;
+        i += 1;
+    }
+}
+
+// internal: a caller has tested the room before the first octet is written.
+// Copies src over dst from index at on, each octet with `by` added, modulo 256.
+pub fn copy_shifted(dst: &mut [u8], at: usize, src: &[u8], by: u8)
+    requires { ⌜ at + length (now src) ≤ length (now dst) ⌝ }
+    ensures { λ _. ⌜ now (dst .exit) ≡ over (now (dst .entry)) at (map (shifted by) (now (src .entry))) ⌝ }
+{
+    let mut i = 0;
+    while i < src.len() {
+        dst[at + i] = std::num::wrapping_add_u8(src[i], by);
         i += 1;
     }
 }
@@ -97,4 +111,24 @@ pub fn four(s: &[u8], at: usize) -> u32
     ensures { λ r. ⌜ r ≡ fourAt (now (s .entry)) at ⌝ }
 {
     two(s, at) as u32 * 65536 + two(s, at + 2) as u32
+}
+
+// internal: a caller has tested the room before the first octet is written.
+// Writes a number as two octets, big-endian, from index at on.
+pub fn put_two(dst: &mut [u8], at: usize, x: u16)
+    requires { ⌜ at + 2 ≤ length (now dst) ⌝ }
+    ensures { λ _. ⌜ now (dst .exit) ≡ over (now (dst .entry)) at (twoOctets x) ⌝ }
+{
+    dst[at] = (x / 256) as u8;
+    dst[at + 1] = (x % 256) as u8;
+}
+
+// internal: a caller has tested the room before the first octet is written.
+// Writes a number as four octets, big-endian, from index at on.
+pub fn put_four(dst: &mut [u8], at: usize, x: u32)
+    requires { ⌜ at + 4 ≤ length (now dst) ⌝ }
+    ensures { λ _. ⌜ now (dst .exit) ≡ over (now (dst .entry)) at (fourOctets x) ⌝ }
+{
+    put_two(dst, at, (x / 65536) as u16);
+    put_two(dst, at + 2, (x % 65536) as u16);
 }

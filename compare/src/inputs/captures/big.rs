@@ -1,9 +1,9 @@
 //! Captures of many packets.
 
 use super::super::scripts::changes::change;
-use super::super::{Kinds, Rng};
+use super::super::{mix, Kinds, Rng};
 use super::bad::filled;
-use super::talk::{mix, Heard, Size, Talk, Way};
+use super::talk::{Heard, Size, Talk, Way};
 use super::{open_packets, swapped, Case, BAD, OPENING};
 
 /// The most packets and octets of a capture.

@@ -10,10 +10,10 @@ pub mod families;
 mod stray;
 mod talk;
 
-use super::{of_kind, Kinds, Rng};
+use super::{mix, of_kind, Kinds, Rng};
 use crate::paper::session::Packet;
 use crate::trial::WriteCase;
-use talk::{mix, Heard, Size, Talk, Way};
+use talk::{Heard, Size, Talk, Way};
 
 /// A capture to record.
 #[derive(Clone)]

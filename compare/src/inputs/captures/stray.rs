@@ -2,8 +2,8 @@
 
 use super::super::frames::{reserved_entry, size_of, TYPES};
 use super::super::scripts::changes::change;
-use super::super::Rng;
-use super::talk::{mix, Heard, Size, Talk, Way};
+use super::super::{mix, Rng};
+use super::talk::{Heard, Size, Talk, Way};
 use super::{open_packets, some_packets, swapped, Case, OPENING};
 use crate::paper::session::Packet;
 

@@ -1,7 +1,7 @@
 //! What a source sends, group after group, and what is heard of it.
 
 use super::super::frames::{self, octets_of, Entry};
-use super::super::Rng;
+use super::super::{mix, Rng};
 use crate::paper::session::Packet;
 
 /// A source, and the base numbers of the group it sends next.
@@ -168,13 +168,6 @@ impl Way {
             heard.retain(|&n| n == one);
         }
         heard
-    }
-}
-
-/// Puts things in any order.
-pub fn mix<T>(rng: &mut Rng, things: &mut [T]) {
-    for last in (1..things.len()).rev() {
-        things.swap(last, rng.between(0, last));
     }
 }
 

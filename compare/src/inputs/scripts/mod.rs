@@ -2,7 +2,7 @@
 //! some twice, late or damaged, and pour and join what they hold.
 
 pub mod changes;
-mod talk;
+pub mod talk;
 
 use super::Rng;
 use crate::paper::holding::{self, Holding};

@@ -79,7 +79,15 @@ impl Talk {
 
     /// Any packet of the group.
     pub fn packet(&self, rng: &mut Rng) -> Packet {
-        let n = rng.between(0, self.group.payloads.len() - 1);
+        self.numbered(rng.between(0, self.group.payloads.len() - 1))
+    }
+
+    /// All packets of the group.
+    pub fn packets(&self) -> Vec<Packet> {
+        (0..self.group.payloads.len()).map(|n| self.numbered(n)).collect()
+    }
+
+    fn numbered(&self, n: usize) -> Packet {
         Packet {
             source: self.source,
             sequence: self.group.sequence.wrapping_add(n as u16),

@@ -1,0 +1,47 @@
+-- `lending::put_numbers` meets its contract.
+use native.Mathlib.Omega.{arith}
+use borrow.Author.Needs.{needs}
+use Rattle.lending.proofs.LaidLaws.{numbers-laid}
+use Rattle.lending.proofs.put_numbers.Statement.{statement}
+use Rattle.lending.proofs.put_numbers.Tie as tie
+
+put-four-requires : tie.Need-put-four-requires
+put-four-requires c κs = search needs
+
+add-put-two : tie.Need-add-put-two
+add-put-two c = search needs
+
+put-two-requires : tie.Need-put-two-requires
+put-two-requires c κs = search needs
+
+add-put-four : tie.Need-add-put-four
+add-put-four c = search needs
+
+put-four-requires-2 : tie.Need-put-four-requires-2
+put-four-requires-2 c κs = search needs
+
+add-put-pair : tie.Need-add-put-pair
+add-put-pair c = search needs
+
+put-pair-requires : tie.Need-put-pair-requires
+put-pair-requires c κs = search needs
+
+same-length : tie.Need-same-length
+same-length c = search needs
+
+returns : tie.Need-returns
+returns c = numbers-laid _ _ _ _ _ _ _ (omega (arith, c .before .before .before .before .before .before .before .before .before .before .before .before .before .before .before .before .before .pre)) (c .before .before .before .before .before .before .before .before .before .before .before .before .before .before .put-four .ensures) (c .before .before .before .before .before .before .before .before .before .before .put-two .ensures) (c .before .before .before .before .before .before .put-four2 .ensures) (c .before .before .put-pair .ensures)
+
+pub put-numbers-spec : {M : Type 1} → statement M
+put-numbers-spec =
+    tie.close
+    (tie.spec
+    put-four-requires
+    add-put-two
+    put-two-requires
+    add-put-four
+    put-four-requires-2
+    add-put-pair
+    put-pair-requires
+    same-length
+    returns)

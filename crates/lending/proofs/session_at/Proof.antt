@@ -1,0 +1,47 @@
+-- `lending::session_at` meets its contract.
+use mathlib.Core.Path.{refl}
+use borrow.Author.Needs.{needs}
+use Rattle.lending.proofs.LaidLaws.{session-read}
+use Rattle.lending.proofs.session_at.Statement.{statement}
+use Rattle.lending.proofs.session_at.Tie as tie
+
+form-at-requires : tie.Need-form-at-requires
+form-at-requires c κs = search needs
+
+holding-at-requires : tie.Need-holding-at-requires
+holding-at-requires c κs = search needs
+
+shared-slice-read-t5 : tie.Need-shared-slice-read-t5
+shared-slice-read-t5 c = search needs
+
+four-requires : tie.Need-four-requires
+four-requires c κs = search needs
+
+shared-slice-read-t9 : tie.Need-shared-slice-read-t9
+shared-slice-read-t9 c = search needs
+
+two-requires : tie.Need-two-requires
+two-requires c κs = search needs
+
+shared-slice-read-t13 : tie.Need-shared-slice-read-t13
+shared-slice-read-t13 c = search needs
+
+shared-slice-read-t15 : tie.Need-shared-slice-read-t15
+shared-slice-read-t15 c = search needs
+
+returns : tie.Need-returns
+returns c = session-read _ _ refl (c .before .before .before .before .four .ensures) (c .before .before .before .before .before .before .before .form-at .ensures) (c .before .before .before .before .before .before .holding-at .ensures) refl (c .before .before .two .ensures) refl refl
+
+pub session-at-spec : {M : Type 1} → statement M
+session-at-spec =
+    tie.close
+    (tie.spec
+    form-at-requires
+    holding-at-requires
+    shared-slice-read-t5
+    four-requires
+    shared-slice-read-t9
+    two-requires
+    shared-slice-read-t13
+    shared-slice-read-t15
+    returns)

@@ -1,16 +1,23 @@
 -- Sessions and holdings in octets that a host lends: what holds of every such octets. Over any frame table.
-use Prim.Native.Nat.{ℕ}
+use Prim.Native.Nat.{ℕ, _<_}
 use mathlib.Core.Path.{_≡_}
 use mathlib.Core.List.{List}
-use mathlib.Core.Bool.{false}
-use lib.ListN.{replicate}
+use mathlib.Core.Bool.{true, false}
+use lib.ListN.{length, replicate}
+use Rattle.octets.specs.Octets.{over}
 use Rattle.frame.specs.Table.{Vocoder}
 use Rattle.frame.specs.Outputs.{refused}
 use Rattle.frame.specs.declared.Refusal.the-variants.{NotApplicable}
 use Rattle.holding.specs.Group.{nothing}
+use Rattle.holding.specs.declared.Holding.{Holding}
 use Rattle.pouring.specs.Pouring.{poured}
+use Rattle.session.specs.declared.Session.{Session}
 use Rattle.session.specs.Session.{never, refuse, offered}
-use Rattle.lending.specs.Laid.{flagsAt, holdingIn, sessionLaid, headRight, sessionIn}
+use Rattle.lending.specs.Laid.{flagsAt, holdingIn, holdingLaid, sessionLaid, headRight, sessionIn}
+use Rattle.joining.specs.Joining.{sameGroup}
+use Rattle.knowledge.specs.Knowledge.{Box, knownOf}
+use Rattle.claims.specs.Packets.{AreOctets}
+use Rattle.claims.specs.Joinings.{HasRoom}
 
 -- a wholly zero buffer is a session never opened, and a session never opened, or ended, is wholly zero
 pub record ZeroIsNeverOpened : Type 0 where
@@ -27,3 +34,23 @@ NoSessionTakesNothing =
 unfoldable pub NoHoldingHoldsNothing : Type 0
 NoHoldingHoldsNothing =
     (v : Vocoder) (o : List ℕ) → flagsAt o 12 ≡ false → (holdingIn o ≡ nothing) × (poured v (holdingIn o) ≡ refused NotApplicable)
+
+-- a holding as its type makes it: its arrays are as long as they are declared, and types are octets
+pub record Typed (h : Holding) : Type 0 where
+  pub flags : length (h .held) ≡ 8
+  pub types : length (h .marks) ≡ 80
+  pub octets : AreOctets (h .marks)
+  pub bodies : length (h .room) ≡ 1760
+
+-- what a call laid out reads back the same, whatever the buffer held before
+unfoldable pub HoldingReadsBack : Type 0
+HoldingReadsBack = (h : Holding) → Typed h → (o : List ℕ) → holdingIn (over o 0 (holdingLaid h)) ≡ h
+
+unfoldable pub SessionReadsBack : Type 0
+SessionReadsBack = (s : Session) → Typed (s .group) → (o : List ℕ) → sessionIn (over o 0 (sessionLaid s)) ≡ s
+
+-- equal knowledge gives equal octets
+unfoldable pub EqualKnowledgeEqualOctets : Type 0
+EqualKnowledgeEqualOctets =
+    (v : Vocoder) → HasRoom v → (a b : Holding) → Box v a → Box v b → sameGroup a b ≡ true →
+    ((n : ℕ) → n < 8 → knownOf v a n ≡ knownOf v b n) → holdingLaid a ≡ holdingLaid b

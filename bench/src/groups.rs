@@ -31,10 +31,10 @@ fn size(kind: u8) -> Option<usize> {
 
 fn frame_right(h: &Holding, n: usize, k: usize) -> bool {
     let kind = h.marks[n][k];
-    let Some(octets) = size(kind) else {
-        return false;
-    };
-    (k < h.head.b as usize || kind == 14) && h.room[n][k][octets..].iter().all(|&x| x == 0)
+    match size(kind) {
+        None => false,
+        Some(octets) => (k < h.head.b as usize || kind == 14) && h.room[n][k][octets..].iter().all(|&x| x == 0),
+    }
 }
 
 fn packet_right(h: &Holding, n: usize) -> bool {

@@ -1,23 +1,17 @@
 //! Offers and pours 10,000 groups of L 5 and B 10: the same work as ../calls.c, which goes through the library's C calls, in plain Rust.
 //! The session lies in 2,048 lent octets as the library's does, and is judged at each call by the same rules; it is changed in place.
 //! Writes the number of octets poured and a sum over all of them on standard output, and the nanoseconds that it took on standard error.
+mod table;
+
 use std::time::Instant;
+
+use table::size;
 
 const GROUP: usize = 16;
 const HELD: usize = GROUP + 12;
 const MARKS: usize = GROUP + 20;
 const ROOM: usize = GROUP + 100;
 const END: usize = GROUP + 1860;
-
-fn size(kind: u8) -> Option<usize> {
-    match kind {
-        0 | 14 => Some(0),
-        1 => Some(2),
-        3 => Some(10),
-        4 => Some(22),
-        _ => None,
-    }
-}
 
 fn zeros(octets: &[u8]) -> bool {
     octets.iter().all(|&octet| octet == 0)

@@ -1,6 +1,10 @@
 //! What crates/groups does, in plain Rust on plain arrays: two holdings of one group judged, joined and poured, once for each octet
 //! of standard input. It writes the same octets, so that `bench/run` can hold the two to each other before it times them.
+mod table;
+
 use std::io::{self, Read, Write};
+
+use table::size;
 
 #[derive(Clone, Copy, PartialEq, Eq)]
 struct Head {
@@ -17,16 +21,6 @@ struct Holding {
     held: [bool; 8],
     marks: [[u8; 10]; 8],
     room: [[[u8; 22]; 10]; 8],
-}
-
-fn size(kind: u8) -> Option<usize> {
-    match kind {
-        0 | 14 => Some(0),
-        1 => Some(2),
-        3 => Some(10),
-        4 => Some(22),
-        _ => None,
-    }
 }
 
 fn frame_right(h: &Holding, n: usize, k: usize) -> bool {

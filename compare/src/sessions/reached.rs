@@ -24,8 +24,9 @@ const COLUMNS: &[Column] = &[
 /// How many sessions and holdings each call is lent.
 const BUFFERS: [usize; 7] = [1, 1, 1, 2, 1, 3, 1];
 
-/// Spoilings of sessions that can do harm, and those that need not.
-const SESSION_HARM: [Kind; 19] = [
+/// Spoilings of a group that can do harm, in a session as in a holding, and those
+/// that need not.
+const HARM: [Kind; 11] = [
     Kind::AnyOctet,
     Kind::HeldFlag,
     Kind::L,
@@ -36,8 +37,19 @@ const SESSION_HARM: [Kind; 19] = [
     Kind::RoomPastBody,
     Kind::PlaceNotHeld,
     Kind::FramePastB,
-    Kind::Source,
     Kind::Random,
+];
+const NO_HARM: [Kind; 5] = [
+    Kind::AnyOctet,
+    Kind::HeldErasures,
+    Kind::BodyOctet,
+    Kind::BaseNumbers,
+    Kind::NotLookedAt,
+];
+
+/// The same in a session alone, and in a holding alone.
+const SESSION_HARM: [Kind; 8] = [
+    Kind::Source,
     Kind::OpenFlag,
     Kind::FormOctet,
     Kind::Maxima,
@@ -46,12 +58,7 @@ const SESSION_HARM: [Kind; 19] = [
     Kind::LastB,
     Kind::NoPacket,
 ];
-const SESSION_NO_HARM: [Kind; 11] = [
-    Kind::AnyOctet,
-    Kind::HeldErasures,
-    Kind::BodyOctet,
-    Kind::BaseNumbers,
-    Kind::NotLookedAt,
+const SESSION_NO_HARM: [Kind; 6] = [
     Kind::FormOctet,
     Kind::Maxima,
     Kind::PouredFlag,
@@ -59,29 +66,7 @@ const SESSION_NO_HARM: [Kind; 11] = [
     Kind::LastB,
     Kind::LastSequence,
 ];
-
-/// The same for holdings.
-const HOLDING_HARM: [Kind; 11] = [
-    Kind::AnyOctet,
-    Kind::HeldFlag,
-    Kind::L,
-    Kind::B,
-    Kind::PacketAboveL,
-    Kind::HeldCleared,
-    Kind::Type,
-    Kind::RoomPastBody,
-    Kind::PlaceNotHeld,
-    Kind::FramePastB,
-    Kind::Random,
-];
-const HOLDING_NO_HARM: [Kind; 6] = [
-    Kind::AnyOctet,
-    Kind::HeldErasures,
-    Kind::BodyOctet,
-    Kind::Source,
-    Kind::BaseNumbers,
-    Kind::NotLookedAt,
-];
+const HOLDING_NO_HARM: [Kind; 1] = [Kind::Source];
 
 /// The answers, and what was seen on the way.
 pub struct Reached {
@@ -154,11 +139,13 @@ impl Reached {
             });
             demand(report, "call, buffer, length, answer 0", &self.lengths, numbers);
         }
-        let of_session = SESSION_HARM.map(|kind| (kind, true, true)).into_iter();
-        let spoilt = of_session
-            .chain(SESSION_NO_HARM.map(|kind| (kind, true, false)))
-            .chain(HOLDING_HARM.map(|kind| (kind, false, true)))
-            .chain(HOLDING_NO_HARM.map(|kind| (kind, false, false)));
+        let spoilings = [true, false]
+            .into_iter()
+            .flat_map(|session| [(&HARM[..], session, true), (&NO_HARM[..], session, false)])
+            .chain([(&SESSION_HARM[..], true, true), (&SESSION_NO_HARM[..], true, false)])
+            .chain([(&HOLDING_NO_HARM[..], false, false)]);
+        let spoilt = spoilings
+            .flat_map(|(kinds, session, harm)| kinds.iter().map(move |&kind| (kind, session, harm)));
         demand(report, "spoiling, of a session, with harm", &self.spoilt, spoilt);
         let rooms = [(15, -1), (0, 0), (0, 1)];
         let rooms = [2, 6].into_iter().flat_map(|call| rooms.map(|(a, left)| (call, a, left)));

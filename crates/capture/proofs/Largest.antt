@@ -9,8 +9,8 @@ use native.Mathlib.Nat.{add-zero, zero-add, le-refl, mul-le-mul, suc-mul, eq-or-
 use native.Mathlib.Omega.{arith}
 use lib.ListN.{length, take, drop, getD, replicate, length-append, length-take, length-replicate, getD-replicate}
 use lib.Seq.{getD-take, getD-drop, getD-set-other}
-use lib.Dec.{T, eqb, leb, ltb}
-use borrow.Author.Tests.{eqb-true, eqb-false, ltb-false, leb-true}
+use lib.Dec.{T, eqb, leb}
+use borrow.Author.Tests.{eqb-true, eqb-false, leb-true}
 use Rattle.octets.specs.Octets.{sameOctets}
 use Rattle.octets.proofs.Logic.{apart, both-true}
 use Rattle.octets.proofs.OctetLaws.{same-true}
@@ -27,16 +27,19 @@ use Rattle.pouring.specs.Pouring.{frameIn, row, rows, inTime, poured}
 use Rattle.frame.specs.Places.{upTo}
 use Rattle.pouring.proofs.PourLaws.{entries-append}
 use Rattle.frame.specs.declared.Refusal.{Refusal}
-use Rattle.frame.specs.declared.Refusal.the-variants.{AnotherSource, ContradictsGroup, LaterGroup, EarlierGroup, PacketDiffers, TooFarAhead, NotApplicable}
-use Rattle.payload.specs.Payload.{Reading, packet, readAs}
-use Rattle.payload.specs.Payload as payload
-use Rattle.holding.specs.Bases.{minus}
-use Rattle.session.specs.Session.{formRight, lastRight, groupRight, isOpen, refuse, accept, withGroup, sameBase, atDistance, inGroup, begins, afterLast, noGroup, placed, arrival, judged, offered, pourMade, ended, never, fresh, vacant}
+use Rattle.frame.specs.declared.Refusal.the-variants.{NotApplicable}
+use Rattle.payload.specs.Payload.{packet}
+use Rattle.session.specs.Session.{formRight, lastRight, groupRight, isOpen, refuse, accept, withGroup, begins, arrival, offered, pourMade, ended, never, fresh, vacant}
+use Rattle.session.proofs.Ends.{Placed, no, again, put, first, next, ahead, Ends, refuses, places, offer-ends}
 use Rattle.session.specs.declared.Session.{Session}
 use Rattle.session.specs.declared.Arrival.{Arrival}
 use Rattle.session.specs.declared.Offered.{Offered}
 use Rattle.capture.specs.Table.{Heard}
 use Rattle.capture.specs.Run.{Step, andThen, firstSession, offeredTo, takenOf, offering, pouredOf, pouring, isTwelve, stepOf, runOf, lostIn}
+
+at-most-one : (t : Bool) → cond t 1 0 ≤ 1
+at-most-one true = omega arith
+at-most-one false = omega arith
 
 -- how many of the first m packets are held
 abbrev heldBelow : Holding → ℕ → ℕ
@@ -109,11 +112,7 @@ pour-small v w z h e =
 
 held-few : (h : Holding) (m : ℕ) → heldBelow h m ≤ m
 held-few h zero = omega arith
-held-few h (suc m) = let i = held-few h m in omega (arith, i, one (heldAt h m))
-  where
-    one : (t : Bool) → cond t 1 0 ≤ 1
-    one true = omega arith
-    one false = omega arith
+held-few h (suc m) = let i = held-few h m in omega (arith, i, at-most-one (heldAt h m))
 
 -- a packet put in is one more; of a group just begun none is held
 module _ (h : Holding) (n : ℕ) (p : Packet) where
@@ -129,15 +128,11 @@ module _ (h : Holding) (n : ℕ) (p : Packet) where
   with-small zero = omega arith
   with-small (suc m) = go (with-small m) (eqb m n) refl
     where
-      one : (t : Bool) → cond t 1 0 ≤ 1
-      one true = omega arith
-      one false = omega arith
-
       go : heldBelow (withPacket h n p) m ≤ heldBelow h m + 1 → (b : Bool) → eqb m n ≡ b → heldBelow (withPacket h n p) (suc m) ≤ heldBelow h (suc m) + 1
       go j true e =
           let q : m ≡ n = eqb-true m n e in
           let i = with-below m (omega arith) in
-          omega (arith, i, one (heldAt (withPacket h n p) m))
+          omega (arith, i, at-most-one (heldAt (withPacket h n p) m))
       go j false e =
           let q = ap {B = ℕ} (λ (t : Bool). cond t 1 0) (with-other m (eqb-false m n e)) in
           omega (arith, j, q)
@@ -168,79 +163,39 @@ data Brings (s : Session) (o : Offered) : Type 0 where
   nothing-new : (r : Refusal) → o ≡ refuse s r → Brings s o
   more : (t : Session) (lost : ℕ) → o ≡ accept t lost → t .poured ≡ s .poured → t .source ≡ s .source → lost ≤ 1000 → lost + weight t ≤ weight s + 300 + before s → Brings s o
 
-choose : (s : Session) (b : Bool) (o o′ : Offered) → (b ≡ true → Brings s o) → (b ≡ false → Brings s o′) → Brings s (cond b o o′)
-choose s true o o′ f g = f refl
-choose s false o o′ f g = g refl
-
-begins-brings : (s : Session) (a : Arrival) (lost : ℕ) → lost ≤ before s → lost ≤ 1000 → Brings s (begins s a lost)
-unfolding begins withGroup
-begins-brings s a lost h k =
+-- a group that a packet begins
+begun-weight : (s : Session) (a : Arrival) → weight (withGroup s (withPacket (begun (s .source) (a .sequence) (a .timestamp) (a .l) (a .b)) (a .n) (a .packet))) ≤ 300
+unfolding withGroup
+begun-weight s a =
     let none = begun (s .source) (a .sequence) (a .timestamp) (a .l) (a .b) in
-    let t = withGroup s (withPacket none (a .n) (a .packet)) in
     let e = begun-none (s .source) (a .sequence) (a .timestamp) (a .l) (a .b) 8 (le-refl 8) in
-    more t lost refl refl refl k (omega (arith, weight-most t, with-small none (a .n) (a .packet) 8, e))
+    omega (arith, weight-most (withGroup s (withPacket none (a .n) (a .packet))), with-small none (a .n) (a .packet) 8, e)
 
-base-brings : (s : Session) (a : Arrival) → isNothing (s .group) ≡ false → Brings s (sameBase s a)
-unfolding sameBase withGroup
-base-brings s a q =
+placed-brings : (s : Session) (a : Arrival) (o : Offered) → lastRight s ≡ true → Placed s a o → Brings s o
+unfolding begins withGroup lastRight
+placed-brings s a o r (no x e) = nothing-new x e
+placed-brings s a o r (again q e) = more s 0 e refl refl (omega arith) (omega arith)
+placed-brings s a o r (put q f i e) =
     let g = s .group in
-    let t = withGroup s (withPacket g (a .n) (a .packet)) in
-    let same = cond (samePackets (packetOf g (a .n)) (a .packet)) (accept s 0) (refuse s PacketDiffers) in
     let held : weight s ≡ 80 + 220 * heldBelow g 8 = simp q in
-    choose s (eqb (a .l) (g .l) && (eqb (a .b) (g .b) && eqb (a .timestamp) (g .timestamp))) (cond (heldAt g (a .n)) same (accept t 0)) (refuse s ContradictsGroup)
-    (λ _. choose s (heldAt g (a .n)) same (accept t 0)
-    (λ _. choose s (samePackets (packetOf g (a .n)) (a .packet)) (accept s 0) (refuse s PacketDiffers)
-    (λ _. more s 0 refl refl refl (omega arith) (omega arith)) (λ _. nothing-new PacketDiffers refl))
-    (λ _. more t 0 refl refl refl (omega arith) (omega (arith, weight-most t, with-small g (a .n) (a .packet) 8, held))))
-    (λ _. nothing-new ContradictsGroup refl)
-
-distance-brings : (s : Session) (a : Arrival) (d : ℕ) → isNothing (s .group) ≡ false → Brings s (atDistance s a d)
-unfolding atDistance
-distance-brings s a d q =
-    let far = cond (leb d 32767) (refuse s LaterGroup) (refuse s EarlierGroup) in
-    choose s (eqb d 0) (sameBase s a) (cond (leb d (s .group .l)) (refuse s ContradictsGroup) far) (λ _. base-brings s a q)
-    (λ _. choose s (leb d (s .group .l)) (refuse s ContradictsGroup) far (λ _. nothing-new ContradictsGroup refl)
-    (λ _. choose s (leb d 32767) (refuse s LaterGroup) (refuse s EarlierGroup) (λ _. nothing-new LaterGroup refl) (λ _. nothing-new EarlierGroup refl)))
-
-last-brings : (s : Session) (a : Arrival) (e : ℕ) → s .poured ≡ true → s .«last_b» ≤ 10 → Brings s (afterLast s a e)
-unfolding afterLast
-last-brings s a e p l =
-    let m = e * s .«last_b» in
-    choose s (leb 32768 e) (refuse s EarlierGroup) (cond (ltb 100 e) (refuse s TooFarAhead) (begins s a m)) (λ _. nothing-new EarlierGroup refl)
-    (λ _. choose s (ltb 100 e) (refuse s TooFarAhead) (begins s a m) (λ _. nothing-new TooFarAhead refl)
-    (λ q.
-    let small = mul-le-mul {n₁ = e} {m₁ = s .«last_b»} {n₂ = 100} {m₂ = 10} (ltb-false 100 e q) l in
-    let b : before s ≡ 1000 = simp p in
-    begins-brings s a m (omega arith) (omega arith)))
-
-placed-brings : (s : Session) (a : Arrival) → lastRight s ≡ true → Brings s (placed s a)
-unfolding placed noGroup inGroup lastRight
-placed-brings s a r =
-    choose s (isNothing (s .group)) (cond (s .poured) (afterLast s a (minus 16 (a .sequence) (s .«last_sequence» + (s .«last_l» + 1)))) (begins s a 0)) (atDistance s a (minus 16 (a .sequence) (s .group .sequence)))
-    (λ _. choose s (s .poured) (afterLast s a (minus 16 (a .sequence) (s .«last_sequence» + (s .«last_l» + 1)))) (begins s a 0)
-    (λ p.
+    more (withGroup s (withPacket g (a .n) (a .packet))) 0 e refl refl (omega arith) (omega (arith, weight-most (withGroup s (withPacket g (a .n) (a .packet))), with-small g (a .n) (a .packet) 8, held))
+placed-brings s a o r (first q p e) = more _ 0 e refl refl (omega arith) (omega (arith, begun-weight s a))
+placed-brings s a o r (next q p h e) =
     let x : (leb (s .«last_l») 7 && (leb 1 (s .«last_b») && leb (s .«last_b») 10)) ≡ true = sym (ap (λ (t : Bool). cond t (leb (s .«last_l») 7 && (leb 1 (s .«last_b») && leb (s .«last_b») 10)) true) p) ∙ r in
-    let y = both-true (leb (s .«last_l») 7) (leb 1 (s .«last_b») && leb (s .«last_b») 10) x .1 in
-    last-brings s a (minus 16 (a .sequence) (s .«last_sequence» + (s .«last_l» + 1))) p (leb-true _ _ (both-true (leb 1 (s .«last_b»)) (leb (s .«last_b») 10) y .1)))
-    (λ _. begins-brings s a 0 (omega arith) (omega arith)))
-    (λ q. distance-brings s a (minus 16 (a .sequence) (s .group .sequence)) q)
-
-judged-brings : (s : Session) (q t : ℕ) (w : Reading) → lastRight s ≡ true → Brings s (judged s q t w)
-unfolding judged arrival
-judged-brings s q t (payload.refused r) l = nothing-new r refl
-judged-brings s q t (packet l n d fs) x = placed-brings s (arrival q t l n fs) x
+    let y = both-true (leb 1 (s .«last_b»)) (leb (s .«last_b») 10) (both-true (leb (s .«last_l») 7) (leb 1 (s .«last_b») && leb (s .«last_b») 10) x .1) in
+    let small = mul-le-mul {n₁ = ahead s a} {m₁ = s .«last_b»} {n₂ = 100} {m₂ = 10} h (leb-true _ _ (y .1)) in
+    let b : before s ≡ 1000 = simp p in
+    more _ (ahead s a * s .«last_b») e refl refl (omega arith) (omega (arith, begun-weight s a, small, b))
 
 offer-brings : (v : Vocoder) (s : Session) (h : Heard) → Brings s (offeredTo v s h)
-unfolding offeredTo offered isOpen
-offer-brings v s h =
-    let w = readAs v (s .form) (h .payload) in
-    choose s (s .«open» && (formRight (s .form) && (lastRight s && groupRight v s))) (cond (eqb (h .source) (s .source)) (judged s (h .sequence) (h .timestamp) w) (refuse s AnotherSource)) (refuse s NotApplicable)
-    (λ o.
-    let x = both-true (s .«open») (formRight (s .form) && (lastRight s && groupRight v s)) o in
-    let y = both-true (formRight (s .form)) (lastRight s && groupRight v s) (x .1) in
-    let z = both-true (lastRight s) (groupRight v s) (y .1) in
-    choose s (eqb (h .source) (s .source)) (judged s (h .sequence) (h .timestamp) w) (refuse s AnotherSource) (λ _. judged-brings s (h .sequence) (h .timestamp) w (z .0)) (λ _. nothing-new AnotherSource refl))
-    (λ _. nothing-new NotApplicable refl)
+unfolding offeredTo isOpen
+offer-brings v s h = go (offered v s (h .source) (h .sequence) (h .timestamp) (h .payload)) (offer-ends v s (h .source) (h .sequence) (h .timestamp) (h .payload))
+  where
+    go : (o : Offered) → Ends v s (h .source) (h .sequence) (h .timestamp) (h .payload) o → Brings s o
+    go o (refuses r e) = nothing-new r e
+    go o (places op q l n d fs r x) =
+        let y = both-true (formRight (s .form)) (lastRight s && groupRight v s) (both-true (s .«open») (formRight (s .form) && (lastRight s && groupRight v s)) op .1) in
+        placed-brings s (arrival (h .sequence) (h .timestamp) l n fs) o (both-true (lastRight s) (groupRight v s) (y .1) .0) x
 
 -- so the lost frames of an answer are few
 pub lost-few : (v : Vocoder) (s : Session) (h : Heard) → lostIn (offeredTo v s h .answer) ≤ 1000

@@ -3,8 +3,7 @@ use Prim.Native.Nat.{ℕ, zero, suc, _+_, _-_, _*_, _≤_, _<_}
 use mathlib.Core.Bool.{Bool, true, false}
 use mathlib.Core.Path.{_≡_, refl, sym, ap, ap₂, _∙_}
 use mathlib.Core.List.{List, [], _∷_, _++_, append-assoc, append-nil}
-use native.Mathlib.Nat.{le-refl, add-zero, zero-add, add-sub-cancel-left}
-use native.Mathlib.Numerals.{add-one}
+use native.Mathlib.Nat.{le-refl, add-zero, zero-add}
 use native.Mathlib.Omega.{arith}
 use lib.ListN.{length, take, drop, replicate, length-append, length-replicate}
 use lib.Seq.{take-at}
@@ -12,7 +11,7 @@ use lib.Dec.{T, eqb, leb}
 use borrow.Author.Tests.{le-leb, lt-leb}
 use Rattle.octets.specs.Octets.{over, twoAt, fourAt}
 use Rattle.octets.proofs.Logic.{apart}
-use Rattle.octets.proofs.OctetLaws.{over-append, over-nothing, length-over}
+use Rattle.octets.proofs.OctetLaws.{over-append, over-nothing, length-over, part-is}
 use Rattle.frame.specs.Table.{Vocoder, within, erases, erasure}
 use Rattle.frame.specs.Places.{upTo}
 use Rattle.frame.specs.Answers.{numberOf}
@@ -30,7 +29,7 @@ use Rattle.session.specs.declared.Started.{Started}
 use Rattle.frame.specs.declared.Form.the-variants.{Interleaved}
 use Rattle.session.specs.declared.Taken.{Taken}
 use Rattle.session.specs.declared.Taken.the-variants.{Accepted, Refused}
-use Rattle.frame.proofs.PlaceLaws.{length-upTo}
+use Rattle.frame.proofs.PlaceLaws.{length-upTo, upTo-more, upTo-first}
 use Rattle.capture.specs.Table.{Heard, countOf, startAt, heardAt, packetsIn, good}
 use Rattle.capture.specs.Run.{Step, andThen, captureForm, firstSession, offeredTo, takenOf, offering, pouredOf, pouring, isTwelve, lostIn, stepOf, runOf, recordedOf, recordingOf, largest, Put, Does, recorded, outputOf}
 use Rattle.capture.specs.declared.Run.{Run}
@@ -52,10 +51,6 @@ one-step : (v : Vocoder) (s : Session) (h : Heard) → runOf v s (h ∷ []) ≡ 
 unfolding runOf andThen
 one-step v s h = ap (λ (o : List ℕ). record { session = stepOf v s h .session; octets = o }) (append-nil (stepOf v s h .octets))
 
-upTo-more : (f : ℕ → Heard) (i : ℕ) → upTo f (i + 1) ≡ upTo f i ++ (f i ∷ [])
-unfolding upTo
-upTo-more f i = rw (add-one i)
-
 pub run-more : (v : Vocoder) (s : Session) (f : ℕ → Heard) (i : ℕ) → runOf v s (upTo f (i + 1)) ≡ andThen (runOf v s (upTo f i)) (λ t. stepOf v t (f i))
 unfolding andThen
 run-more v s f i =
@@ -68,25 +63,13 @@ pub first-none : (c : List ℕ) (n : ℕ) → n ≡ countOf c → n ≡ 0 → ne
 unfolding packetsIn firstSession upTo
 first-none c n e z = let q : countOf c ≡ 0 = sym e ∙ z in rw q
 
-first-of : (f : ℕ → Heard) (n : ℕ) → fresh (f 0 .source) captureForm ≡ firstSession (upTo f (suc n))
-unfolding firstSession upTo
-first-of f zero = refl
-first-of f (suc n) = first-of f n ∙ behind (upTo f (suc n)) (λ (e : upTo f (suc n) ≡ []). empty f n e)
-  where
-    empty : (f : ℕ → Heard) (n : ℕ) → upTo f (suc n) ≡ [] → ⊥
-    empty f n e = absurd (let l = ap length e in omega (arith, length-append (upTo f n) (f n ∷ [])))
-
-    behind : (hs : List Heard) → (hs ≡ [] → ⊥) → firstSession hs ≡ firstSession (hs ++ (f (suc n) ∷ []))
-    behind [] h = absurd (h refl)
-    behind (x ∷ hs) h = refl
-
 pub first-some : (c : List ℕ) (n : ℕ) → n ≡ countOf c → (n ≡ 0 → ⊥) → fresh (heardAt c 0 .source) captureForm ≡ firstSession (packetsIn c)
-unfolding packetsIn
+unfolding packetsIn firstSession
 first-some c n e z = go (countOf c) (λ (q : countOf c ≡ 0). z (e ∙ q))
   where
     go : (m : ℕ) → (m ≡ 0 → ⊥) → fresh (heardAt c 0 .source) captureForm ≡ firstSession (upTo (heardAt c) m)
     go zero h = absurd (h refl)
-    go (suc m) h = first-of (heardAt c) m
+    go (suc m) h = ap firstSession (sym (upTo-first (heardAt c) m))
 
 pub first-opened : (c : List ℕ) (n x : ℕ) (s : Session) (t : Started) → n ≡ countOf c → (n ≡ 0 → ⊥) → x ≡ fourAt c 2 → t ≡ opening s x (Interleaved (record { «max_l» = 7; «max_b» = 10 })) → t .session ≡ firstSession (packetsIn c)
 unfolding heardAt opening formRight captureForm
@@ -98,7 +81,7 @@ pub offer-heard : (v : Vocoder) (s : Session) (c : List ℕ) (i source sequence 
 unfolding heardAt offeredTo
 offer-heard v s c i source sequence timestamp start size r a b d e f q =
     let p : take (start + size - start) (drop start c) ≡ take (twoAt c (2 + 12 * i + 10)) (drop (startAt c i) c) =
-    ap₂ (λ (n m : ℕ). take n (drop m c)) (add-sub-cancel-left start size ∙ e) f in
+    part-is c start size ∙ ap₂ (λ (n m : ℕ). take n (drop m c)) e f in
     rw (← a, ← b, ← d, ← p) q
 
 -- ---- written where it fits
@@ -244,14 +227,14 @@ module _ (v : Vocoder) (s : Session) (at : ℕ) (d : List ℕ) where
 
 -- what it has recorded is few octets
 pub run-fits : (v : Vocoder) → T (within 22 v) → T (erases v) → (c : List ℕ) → good c ≡ true → (i n at : ℕ) → n ≡ countOf c → i ≤ n → at ≡ 7 → (s : Session) → s ≡ firstSession (packetsIn c)
-    → (d e : List ℕ) (r : Run) → Does (runOf v s (upTo (heardAt c) i)) at d r e → r .octets ≤ 331807
+    → (d e : List ℕ) (r : Run) → Does (runOf v s (upTo (heardAt c) i)) at d r e → r .octets ≤ largest
 run-fits v w z c g i n at q h a s f d e r x =
     let few : length (upTo (heardAt c) i) ≤ 256 = omega (arith, length-upTo (heardAt c) i, good-is c g .few) in
     let y = run-few v w z (packetsIn c) (upTo (heardAt c) i) few in
     let k : length (runOf v s (upTo (heardAt c) i) .octets) ≡ length (runOf v (firstSession (packetsIn c)) (upTo (heardAt c) i) .octets) = ap (λ (t : Session). length (runOf v t (upTo (heardAt c) i) .octets)) f in
     omega (arith, y, x .counted)
 
-pub all-fits : (v : Vocoder) → T (within 22 v) → T (erases v) → (c : List ℕ) → good c ≡ true → (s : Session) → s ≡ firstSession (packetsIn c) → (d e : List ℕ) (r : Run) → Does (runOf v s (packetsIn c)) 7 d r e → r .octets ≤ 331807
+pub all-fits : (v : Vocoder) → T (within 22 v) → T (erases v) → (c : List ℕ) → good c ≡ true → (s : Session) → s ≡ firstSession (packetsIn c) → (d e : List ℕ) (r : Run) → Does (runOf v s (packetsIn c)) 7 d r e → r .octets ≤ largest
 unfolding packetsIn
 all-fits v w z c g s f d e r x = run-fits v w z c g (countOf c) (countOf c) 7 refl (le-refl _) refl s f d e r x
 

@@ -119,7 +119,7 @@ fn put_lost(out: &mut [u8], at: usize, lost: usize)
 
 // The run after its session's group was poured, if there is one.
 fn pour_group(run: Run, out: &mut [u8]) -> Run
-    requires { ⌜ run .octets ≤ 1000000 ⌝ }
+    requires { ⌜ run .octets ≤ largest ⌝ }
     ensures { λ r. ⌜ Does (pouring evrc (run .session)) (run .octets) (now (out .entry)) r (now (out .exit)) ⌝ }
 {
     let mut room = [0u8; 1840];
@@ -142,7 +142,7 @@ fn pour_group(run: Run, out: &mut [u8]) -> Run
 
 // The run after an offer: lost frames are recorded as erasures, and a refusal leaves it as it was.
 fn take(run: Run, offered: Offered, out: &mut [u8]) -> Run
-    requires { ⌜ (run .octets ≤ 1000000) × (lostIn (offered .answer) ≤ 1000) ⌝ }
+    requires { ⌜ (run .octets ≤ 2 * largest) × (lostIn (offered .answer) ≤ 1000) ⌝ }
     ensures { λ r. ⌜ Does (takenOf (run .session) (offered .session) (offered .answer)) (run .octets) (now (out .entry)) r (now (out .exit)) ⌝ }
 {
     let at = run.octets;
@@ -175,7 +175,7 @@ fn is_later(answer: Taken) -> bool
 
 // The run after packet i: on 12 the group is poured and the packet offered again.
 fn step(run: Run, capture: &[u8], i: usize, start: usize, out: &mut [u8]) -> Run
-    requires { ⌜ (2 + 12 * (i + 1) ≤ length (now capture)) × (start ≡ startAt (now capture) i) × (start + lengthAt (now capture) i ≤ length (now capture)) × (run .octets ≤ 500000) ⌝ }
+    requires { ⌜ (2 + 12 * (i + 1) ≤ length (now capture)) × (start ≡ startAt (now capture) i) × (start + lengthAt (now capture) i ≤ length (now capture)) × (run .octets ≤ largest) ⌝ }
     ensures { λ r. ⌜ Does (stepOf evrc (run .session) (heardAt (now (capture .entry)) i)) (run .octets) (now (out .entry)) r (now (out .exit)) ⌝ }
 {
     let session = run.session;

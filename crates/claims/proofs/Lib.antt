@@ -10,6 +10,7 @@ pub mod SendingClaims
 pub mod BoxesClaims
 pub mod MissingClaims
 pub mod CaptureClaims
+pub mod CaptureReads
 pub mod LentBack
 pub mod LentClaims
 pub mod Outcomes

@@ -111,11 +111,11 @@ again v m p l n d gs e o h q =
     }
 
 -- ---- frames as entries are read as those frames, under a rule that allows them
-abbrev AllOk : (Frame → Bool) → List Frame → Type 0
+abbrev pub AllOk : (Frame → Bool) → List Frame → Type 0
 AllOk ok [] = Unit {0}
 AllOk ok (f ∷ fs) = (ok f ≡ true) × AllOk ok fs
 
-entries-written : (v : Vocoder) (ok : Frame → Bool) (fs : List Frame) → Fit v fs → AllOk ok fs → entries v ok 0 (entriesOf fs) ≡ frames fs
+pub entries-written : (v : Vocoder) (ok : Frame → Bool) (fs : List Frame) → Fit v fs → AllOk ok fs → entries v ok 0 (entriesOf fs) ≡ frames fs
 unfolding entries
 entries-written v ok [] w o = refl
 entries-written v ok (f ∷ fs) w o =
@@ -147,7 +147,7 @@ sendable-row v f e = go (rowOf v (f .type)) refl e
         let b = both-true (eqb (length (f .body)) (r .octets)) (eqb (lowBits (getD (f .body) (r .octets - 1) 0) (r .spare)) 0) (a .0) in
         record { r = r; row = q; long = eqb-true (length (f .body)) (r .octets) (b .0); sent = a .1 }
 
-narrow-type : (v : Vocoder) (t : ℕ) (r : Row) → T (narrow v) → rowOf v t ≡ Found r → t < 64
+pub narrow-type : (v : Vocoder) (t : ℕ) (r : Row) → T (narrow v) → rowOf v t ≡ Found r → t < 64
 unfolding rowOf
 narrow-type [] t r h e = apart (cc)
 narrow-type (x ∷ v) t r h e = go (eqb t (x .kind)) refl e (narrow-type v t r (both-hold (ltb (x .kind) 64) (narrow v) h .1))

@@ -3,16 +3,18 @@ use Prim.Native.Nat.{ℕ, _+_, _*_, _%_, _≤_, _<_}
 use mathlib.Core.Path.{_≡_}
 use mathlib.Core.List.{List, [], _∷_, _++_, map}
 use mathlib.Core.Bool.{true, false, cond}
-use lib.Dec.{eqb}
+use lib.Dec.{T, eqb}
 use lib.ListN.{length}
-use Rattle.frame.specs.Table.{Vocoder, Frame, evrc, erasure}
+use Rattle.frame.specs.Table.{Vocoder, Frame, evrc, erasure, single}
 use Rattle.frame.specs.Places.{frameAt}
 use Rattle.frame.specs.declared.Form.{Form}
 use Rattle.packet.specs.Packet.{placeOf}
 use Rattle.recording.specs.Entries.{entriesOf}
-use Rattle.recording.specs.Recording.{evrcOpening}
+use Rattle.recording.specs.Entries as entries
+use Rattle.recording.specs.Recording.{evrcOpening, recorded}
 use Rattle.capture.specs.Table.{Heard, countOf, packetsIn, good}
 use Rattle.capture.specs.Run.{captureForm, recordedOf, recordingOf, largest}
+use Rattle.claims.specs.Packets.{narrow}
 use Rattle.claims.specs.Joinings.{HasRoom}
 use Rattle.claims.specs.Demand3.{Sent, Within, among}
 
@@ -52,6 +54,16 @@ FirstSourceAlone = (v : Vocoder) (h : Heard) (hs : List Heard) → recordedOf v 
 -- so where all the others are of other sources, the first packet is recorded as if it had come alone
 unfoldable pub OthersAreNotHeard : Type 0
 OthersAreNotHeard = (v : Vocoder) (h : Heard) (hs : List Heard) → fromSource (h .source) hs ≡ [] → recordedOf v (h ∷ hs) ≡ recordedOf v (h ∷ [])
+
+-- a recording: it is read as frames, and refused by nothing
+pub record IsRecording (v : Vocoder) (opening w : List ℕ) : Type 0 where
+  pub frames : List Frame
+  pub read : recorded v opening w ≡ entries.frames frames
+
+-- "Otherwise it writes a recording": whatever the packets hold, also in captures that are bad
+unfoldable pub GivesARecording : Type 0
+GivesARecording =
+    (v : Vocoder) → HasRoom v → T (single v v) → T (narrow v) → (opening c : List ℕ) → IsRecording v opening (recordingOf v opening c)
 
 -- "Count 0 gives the seven opening octets."
 unfoldable pub NoPacketGivesOpening : Type 0

@@ -3,12 +3,12 @@ use Prim.Native.Nat.{ℕ, _<_}
 use mathlib.Core.Path.{_≡_}
 use mathlib.Core.List.{List}
 use mathlib.Core.Bool.{true, false}
-use lib.ListN.{length, replicate}
+use lib.ListN.{replicate}
 use Rattle.octets.specs.Octets.{over}
 use Rattle.frame.specs.Table.{Vocoder}
 use Rattle.frame.specs.Outputs.{refused}
 use Rattle.frame.specs.declared.Refusal.the-variants.{NotApplicable}
-use Rattle.holding.specs.Group.{nothing}
+use Rattle.holding.specs.Group.{Shaped, nothing}
 use Rattle.holding.specs.declared.Holding.{Holding}
 use Rattle.pouring.specs.Pouring.{poured}
 use Rattle.session.specs.declared.Session.{Session}
@@ -35,19 +35,12 @@ unfoldable pub NoHoldingHoldsNothing : Type 0
 NoHoldingHoldsNothing =
     (v : Vocoder) (o : List ℕ) → flagsAt o 12 ≡ false → (holdingIn o ≡ nothing) × (poured v (holdingIn o) ≡ refused NotApplicable)
 
--- a holding as its type makes it: its arrays are as long as they are declared, and types are octets
-pub record Typed (h : Holding) : Type 0 where
-  pub flags : length (h .held) ≡ 8
-  pub types : length (h .marks) ≡ 80
-  pub octets : AreOctets (h .marks)
-  pub bodies : length (h .room) ≡ 1760
-
--- what a call laid out reads back the same, whatever the buffer held before
+-- what a call laid out reads back the same, whatever the buffer held before; a holding is as long as its type makes it, and types are octets
 unfoldable pub HoldingReadsBack : Type 0
-HoldingReadsBack = (h : Holding) → Typed h → (o : List ℕ) → holdingIn (over o 0 (holdingLaid h)) ≡ h
+HoldingReadsBack = (h : Holding) → Shaped h → AreOctets (h .marks) → (o : List ℕ) → holdingIn (over o 0 (holdingLaid h)) ≡ h
 
 unfoldable pub SessionReadsBack : Type 0
-SessionReadsBack = (s : Session) → Typed (s .group) → (o : List ℕ) → sessionIn (over o 0 (sessionLaid s)) ≡ s
+SessionReadsBack = (s : Session) → Shaped (s .group) → AreOctets (s .group .marks) → (o : List ℕ) → sessionIn (over o 0 (sessionLaid s)) ≡ s
 
 -- equal knowledge gives equal octets
 unfoldable pub EqualKnowledgeEqualOctets : Type 0

@@ -1,10 +1,11 @@
 -- Laws of frame k of these frames, for payloads and recordings alike. Assumes nothing.
 use Prim.Native.Nat.{ℕ, zero, suc, _+_, _-_, _≤_, _<_}
 use mathlib.Core.Path.{_≡_, refl, sym, ap, _∙_}
-use mathlib.Core.List.{List, [], _∷_}
+use mathlib.Core.List.{List, [], _∷_, _++_}
 use mathlib.Core.Bool.{Bool, true, false, cond}
 use mathlib.Core.Logic.{⊎-elim}
-use native.Mathlib.Nat.{zero-add, le-of-suc-le-suc, eq-or-lt-of-le, add-sub-cancel-left}
+use native.Mathlib.Nat.{zero-add, le-of-suc-le-suc, eq-or-lt-of-le}
+use native.Mathlib.Numerals.{add-one}
 use native.Mathlib.Omega.{arith}
 use lib.Dec.{ltb}
 use lib.ListN.{length, take, drop, getD, length-append, List·getD-eq-default, List·getD-append}
@@ -12,6 +13,7 @@ use lib.Seq.{getD-at}
 use denote.Ref.{RefT, now, ptr}
 use borrow.Author.Tests.{le-leb, lt-leb, lt-ltb, le-ltb, ltb-true, ltb-false}
 use Rattle.octets.proofs.Logic.{apart}
+use Rattle.octets.proofs.OctetLaws.{part-is}
 use Rattle.frame.specs.Table.{Vocoder, Frame, typesOf, Listed, AllListed}
 use Rattle.frame.specs.Places.{upTo, Given, frames, refused, taken, frameAt, noFrame, locatedOf, bodyOf, startOf, sizeOf, liesIn, partOf, partStart, VeryPart}
 use Rattle.frame.specs.declared.Refusal.{Refusal}
@@ -26,6 +28,10 @@ module _ {A : Type 0} (f : ℕ → A) where
   length-upTo zero = refl
   length-upTo (suc n) = let i = length-upTo n in simp length-append (omega arith)
 
+  pub upTo-more : (n : ℕ) → upTo f (n + 1) ≡ upTo f n ++ (f n ∷ [])
+  unfolding upTo
+  upTo-more n = rw (add-one n)
+
   pub upTo-at : (n k : ℕ) (d : A) → k < n → getD (upTo f n) k d ≡ f k
   unfolding upTo
   upTo-at zero k d h = absurd (omega arith)
@@ -33,6 +39,12 @@ module _ {A : Type 0} (f : ℕ → A) where
       ⊎-elim (λ (q : k ≡ n). getD-at (upTo f n) (f n) [] d k (length-upTo n ∙ sym q) ∙ ap f (sym q))
       (λ (q : k < n). List·getD-append (upTo f n) (f n ∷ []) d k (omega (arith, length-upTo n)) ∙ upTo-at n k d q)
       (eq-or-lt-of-le (le-of-suc-le-suc h))
+
+-- its first is the first of the sequence
+pub upTo-first : {A : Type 0} (f : ℕ → A) (n : ℕ) → upTo f (suc n) ≡ f 0 ∷ upTo (λ i. f (suc i)) n
+unfolding upTo
+upTo-first f zero = refl
+upTo-first f (suc n) = ap (λ l. l ++ (f (suc n) ∷ [])) (upTo-first f n)
 
 -- ---- the types of frames
 pub types-at : (fs : List Frame) (k : ℕ) → getD (typesOf fs) k 0 ≡ frameAt fs k .type
@@ -88,7 +100,7 @@ pub very-part : (o r : RefT (List ℕ)) (t s z : ℕ) → s + z ≤ length (now 
 very-part o r t s z h e q =
     let j = there (At t s z) (now o) (inside t s z (now o) h) in
     record {
-      holds = e ∙ ap (λ (i : ℕ). take i (drop s (now o))) (add-sub-cancel-left s z) ∙ j .0;
+      holds = e ∙ part-is (now o) s z ∙ j .0;
       lies = q ∙ ap (λ (i : ℕ). (ptr o .0, i + ptr o .1)) (j .1);
     }
 

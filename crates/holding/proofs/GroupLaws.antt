@@ -13,7 +13,7 @@ use lib.Dec.{eqb, leb}
 use borrow.Author.Tests.{eq-eqb, ne-eqb, lt-ltb, le-ltb, le-leb, lt-leb, leb-true}
 use Rattle.octets.specs.Octets.{allZero, anySet, sameOctets}
 use Rattle.octets.proofs.Logic.{both-true, both-false}
-use Rattle.octets.proofs.OctetLaws.{drop-take}
+use Rattle.octets.proofs.OctetLaws.{drop-take, part-is}
 use Rattle.frame.specs.Table.{Vocoder, rowOf, known, erasure}
 use Rattle.frame.specs.declared.Row.{Row}
 use Rattle.frame.specs.declared.Lookup.the-variants.{Found, Missing}
@@ -58,7 +58,7 @@ all-done f m n p q e = let z : n ≡ m = omega arith in sym (rw z at e)
 -- a region, as the code cuts it
 pub cut-is : (xs : List ℕ) (s n : ℕ) → take (s * n + s - s * n) (drop (s * n) xs) ≡ region xs s n
 unfolding region
-cut-is xs s n = let e : s * n + s - s * n ≡ s = omega arith in rw e
+cut-is xs s n = part-is xs (s * n) s
 
 pub length-cut : (xs : List ℕ) (s n : ℕ) → s * n + s ≤ length xs → length (take (s * n + s - s * n) (drop (s * n) xs)) ≡ s
 length-cut xs s n h = simp (length-take, length-drop) (omega arith)

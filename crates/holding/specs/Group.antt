@@ -2,8 +2,9 @@
 -- Frame k of packet n has its type at marks 10 n + k and its body in the 22 octets from 220 n + 22 k on: a packet is one region.
 use Prim.Native.Nat.{ℕ, zero, suc, _+_, _*_}
 use mathlib.Core.Bool.{Bool, true, false, not, cond, _&&_, _||_}
+use mathlib.Core.Path.{_≡_}
 use mathlib.Core.List.{List}
-use lib.ListN.{take, drop, getD, set, replicate}
+use lib.ListN.{length, take, drop, getD, set, replicate}
 use lib.Dec.{eqb, leb, ltb}
 use Rattle.octets.specs.Octets.{over, sameOctets, allZero, anySet}
 use Rattle.frame.specs.Table.{Vocoder, Frame, known, size, erasure}
@@ -48,6 +49,12 @@ unfoldable pub framesRight : Vocoder → ℕ → Packet → Bool
 framesRight v b p = allBelow (frameRight v b p) 10
 
 -- ---- a holding
+
+-- as long as its type makes it: a definition over lists has to say so
+pub record Shaped (h : Holding) : Type 0 where
+  pub long-held : length (h .held) ≡ 8
+  pub long-marks : length (h .marks) ≡ 80
+  pub long-room : length (h .room) ≡ 1760
 
 -- a group of which no packet is held yet
 unfoldable pub begun : ℕ → ℕ → ℕ → ℕ → ℕ → Holding

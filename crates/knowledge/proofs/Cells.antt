@@ -12,14 +12,13 @@ use lib.Seq.{getD-set-same, getD-set-other, drop-drop, ext-getD}
 use lib.Dec.{ltb}
 use borrow.Author.Tests.{ltb-true, ltb-false}
 use Rattle.octets.specs.Octets.{over}
-use Rattle.holding.specs.Group.{region, heldAt, packetOf, withPacket}
+use Rattle.holding.specs.Group.{Shaped, region, heldAt, packetOf, withPacket}
 use Rattle.joining.specs.Joining.{takeOne, takeBelow}
 use Rattle.holding.specs.declared.Holding.{Holding}
 use Rattle.holding.specs.declared.Packet.{Packet}
 use Rattle.joining.proofs.Heads.{SameHead, same-fields}
 use Rattle.holding.proofs.GroupLaws.{length-region}
 use Rattle.octets.proofs.OctetLaws.{length-over, over-same, over-before, over-after}
-use Rattle.knowledge.specs.Knowledge.{Shaped}
 
 -- ---- the shape that a holding's type gives it
 

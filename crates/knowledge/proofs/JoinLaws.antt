@@ -11,14 +11,14 @@ use Rattle.octets.specs.Octets.{anySet}
 use Rattle.octets.proofs.Logic.{apart, both-true}
 use Rattle.frame.specs.Table.{Vocoder}
 use Rattle.frame.specs.declared.Refusal.the-variants.{PacketDiffers}
-use Rattle.holding.specs.Group.{allBelow, erased, samePackets, framesRight, heldAt, packetOf, packetRight, rightAt, sound, holds}
+use Rattle.holding.specs.Group.{Shaped, allBelow, erased, samePackets, framesRight, heldAt, packetOf, packetRight, rightAt, sound, holds}
 use Rattle.joining.specs.Joining.{meets, agreeAt, agree, either, refusedJoin, joinOf}
 use Rattle.holding.specs.declared.Holding.{Holding}
 use Rattle.holding.specs.declared.Packet.{Packet}
 use Rattle.holding.specs.declared.Answer.the-variants.{Done}
 use Rattle.holding.proofs.GroupLaws.{all-at, all-intro, all-fails, Sound, sound-has, has-sound, holds-sound}
 use Rattle.joining.proofs.Heads.{SameHead, take-head, head-group, head-sym, head-refl, head-trans}
-use Rattle.knowledge.specs.Knowledge.{Shaped, Box, Among}
+use Rattle.knowledge.specs.Knowledge.{Box, Among}
 use Rattle.knowledge.proofs.Cells.{Cell, cell, mix, take-shaped, take-cell, cells-ext}
 use Rattle.knowledge.proofs.PacketLaws.{packets-true, packets-refl}
 

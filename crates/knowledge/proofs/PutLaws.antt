@@ -12,14 +12,14 @@ use Rattle.octets.specs.Octets.{anySet}
 use Rattle.frame.specs.Table.{Vocoder, Frame, size, within, erasure, erases, AllListed}
 use Rattle.frame.specs.Places.{frameAt, noFrame, upTo}
 use Rattle.frame.proofs.PlaceLaws.{length-upTo, upTo-at, listed-at}
-use Rattle.holding.specs.Group.{region, erased, markAt, framesRight, begun, heldAt, packetOf, withPacket, packetRight, rightAt, sound, holds}
+use Rattle.holding.specs.Group.{Shaped, region, erased, markAt, framesRight, begun, heldAt, packetOf, withPacket, packetRight, rightAt, sound, holds}
 use Rattle.holding.specs.LaidOut.{filled, laid}
 use Rattle.holding.specs.declared.Holding.{Holding}
 use Rattle.holding.specs.declared.Packet.{Packet}
 use Rattle.holding.proofs.GroupLaws.{all-at, all-intro, Sound, sound-has, has-sound}
 use Rattle.holding.proofs.LaidLaws.{listed-short}
 use Rattle.joining.proofs.Heads.{SameHead}
-use Rattle.knowledge.specs.Knowledge.{Shaped, Box, heard, framesHeard, knownOf}
+use Rattle.knowledge.specs.Knowledge.{Box, heard, framesHeard, knownOf}
 use Rattle.knowledge.proofs.Cells.{Sized, Cell, cell, with-shaped, with-here, with-other}
 use Rattle.knowledge.proofs.PacketLaws.{frameOf, laid-sized, laid-mark, laid-room, laid-right, packets-refl}
 use Rattle.knowledge.proofs.KnowledgeLaws.{upTo-same, heard-frames, known-cell}

@@ -4,18 +4,11 @@ use mathlib.Core.Path.{_≡_}
 use mathlib.Core.List.{List, [], _∷_}
 use mathlib.Core.Logic.{_⊎_}
 use mathlib.Core.Bool.{true, cond}
-use lib.ListN.{length}
 use Rattle.frame.specs.Table.{Vocoder, Frame, erasure}
 use Rattle.frame.specs.Places.{frameAt, upTo}
-use Rattle.holding.specs.Group.{heldAt, holds}
+use Rattle.holding.specs.Group.{Shaped, heldAt, holds}
 use Rattle.pouring.specs.Pouring.{frameIn}
 use Rattle.holding.specs.declared.Holding.{Holding}
-
--- as long as its type makes it
-pub record Shaped (h : Holding) : Type 0 where
-  pub long-held : length (h .held) ≡ 8
-  pub long-marks : length (h .marks) ≡ 80
-  pub long-room : length (h .room) ≡ 1760
 
 -- "holdings as Groups defines them, .. each holding at least one packet"
 pub record Box (v : Vocoder) (h : Holding) : Type 0 where

@@ -3,53 +3,31 @@ use Prim.Native.Nat.{ℕ, _+_, _-_, _≤_, _<_}
 use mathlib.Core.Bool.{Bool, true, false}
 use mathlib.Core.Path.{_≡_, refl, sym, ap, ap₂, _∙_}
 use mathlib.Core.List.{List, [], _∷_, _++_, map, append-nil}
-use native.Mathlib.Nat.{zero-add, add-sub-cancel-left}
+use native.Mathlib.Nat.{zero-add}
 use native.Mathlib.Numerals.{add-one}
 use native.Mathlib.Omega.{arith}
 use lib.Dec.{eqb}
-use lib.ListN.{length, take, drop, getD, set, replicate, length-set, length-append, length-map, length-replicate, length-take, length-drop, drop-of-length-le}
+use lib.ListN.{length, take, drop, getD, set, replicate, length-append, length-map, length-replicate, length-take, length-drop, drop-of-length-le}
 use lib.Seq.{paste, paste-suc, take-all, getD-take, getD-drop}
 use borrow.Author.Tests.{le-leb, lt-leb, eq-eqb, ne-eqb}
 use Rattle.octets.specs.Octets.{over, shifted, twoAt, fourAt, twoOctets, fourOctets}
-use Rattle.octets.proofs.OctetLaws.{over-append, set-over, changed-at}
+use Rattle.octets.proofs.OctetLaws.{over-append, changed-at}
 use Rattle.frame.specs.declared.Limits.{Limits}
 use Rattle.frame.specs.declared.Form.{Form}
 use Rattle.frame.specs.declared.Form.the-variants.{HeaderFree, Interleaved}
-use Rattle.holding.specs.Group.{allBelow, nothing}
+use Rattle.holding.specs.Group.{Shaped, allBelow, nothing}
 use Rattle.holding.specs.declared.Holding.{Holding}
 use Rattle.holding.proofs.GroupLaws.{all-fails, all-done}
 use Rattle.joining.proofs.Heads.{same-fields}
 use Rattle.session.specs.Session.{never}
 use Rattle.session.specs.declared.Session.{Session}
+use Rattle.octets.proofs.OctetLaws.{set-three, part-is, length-four}
 use Rattle.lending.specs.Laid.{flagOctet, isFlag, isSet, numberOctets, frameOctets, holdingOctets, holdingAt, flagsAt, holdingIn, holdingLaid, formOctets, formAt, sessionHead, sessionLaid, sessionAt, headRight, sessionIn}
+use Rattle.lending.proofs.Pieces.{A, B, C, D, F, M, O, G, S, P, Q, L, length-ab, length-abc, length-numbers, length-f, length-fm, length-holding, length-og, length-ogs, length-ogsp, length-ogspq, length-ogspql, length-head}
 
 -- ---- one piece more behind what was laid out: both are laid out together
 pub lay-more : (d e f : List ℕ) (at n : ℕ) (xs ys : List ℕ) → at ≤ length d → e ≡ over d at xs → n ≡ at + length xs → f ≡ over e n ys → f ≡ over d at (xs ++ ys)
 lay-more d e f at n xs ys h p q r = r ∙ ap (λ (i : ℕ). over e i ys) q ∙ ap (λ (l : List ℕ). over l (at + length xs) ys) p ∙ over-append d at xs ys h
-
--- two octets stored one behind the other
-pub set-two : (d : List ℕ) (n m x y : ℕ) → m ≡ n + 1 → m < length d → set (set d n x) m y ≡ over d n (x ∷ y ∷ [])
-set-two d n m x y e h =
-    let a : n < length d = omega arith in
-    let b : n + 1 < length (set d n x) = omega (arith, length-set d n x) in
-    ap (λ (i : ℕ). set (set d n x) i y) e ∙ set-over (set d n x) (n + 1) y b ∙ ap (λ (l : List ℕ). over l (n + 1) (y ∷ [])) (set-over d n x a)
-    ∙ over-append d n (x ∷ []) (y ∷ []) (omega arith)
-
-pub set-three : (d : List ℕ) (n x y z : ℕ) → n + 3 ≤ length d → set (set (set d n x) (n + 1) y) (n + 2) z ≡ over d n (x ∷ y ∷ z ∷ [])
-set-three d n x y z h =
-    let k : n + 1 < length d = omega arith in
-    let a = set-two d n (n + 1) x y refl k in
-    let l : length (set (set d n x) (n + 1) y) ≡ length d = length-set (set d n x) (n + 1) y ∙ length-set d n x in
-    let b : n + 2 < length (set (set d n x) (n + 1) y) = omega arith in
-    set-over (set (set d n x) (n + 1) y) (n + 2) z b ∙ ap (λ (e : List ℕ). over e (n + 2) (z ∷ [])) a ∙ over-append d n (x ∷ y ∷ []) (z ∷ []) (omega arith)
-
-pub length-four : (x : ℕ) → length (fourOctets x) ≡ 4
-unfolding fourOctets twoOctets
-length-four x = refl
-
-pub length-two : (x : ℕ) → length (twoOctets x) ≡ 2
-unfolding twoOctets
-length-two x = refl
 
 -- ---- flags
 pub flag-set : (b : Bool) → b ≡ true → 1 ≡ flagOctet b
@@ -100,9 +78,6 @@ over-whole d w e =
     let z : drop (0 + length w) d ≡ [] = drop-of-length-le d k in
     rw z (append-nil w)
 
-part-is : (o : List ℕ) (at n : ℕ) → take (at + n - at) (drop at o) ≡ take n (drop at o)
-part-is o at n = ap (λ (i : ℕ). take i (drop at o)) (add-sub-cancel-left at n)
-
 pub whole-part : (o r d : List ℕ) (at n : ℕ) → length d ≡ n → at + n ≤ length o → r ≡ over d 0 (take (at + n - at) (drop at o)) → r ≡ take n (drop at o)
 whole-part o r d at n e h q =
     let l : length (take n (drop at o)) ≡ n = simp (length-take, length-drop) (omega arith) in
@@ -131,39 +106,25 @@ unfolding formOctets
 put-interleaved f m d at q h = set-three d at 1 (m .«max_l») (m .«max_b») h ∙ ap (λ (g : Form). over d at (formOctets g)) (sym q)
 
 -- ---- a holding
-length-numbers : (h : Holding) → length (numberOctets h) ≡ 12
-unfolding numberOctets
-length-numbers h = simp length-append (omega (arith, length-four (h .source), length-two (h .sequence), length-four (h .timestamp)))
-
-module _ (h : Holding) (d : List ℕ) (at : ℕ) where
-  pub numbers-laid : (o₁ o₂ o₃ o₄ : List ℕ) → at ≤ length d → o₁ ≡ over d at (fourOctets (h .source)) → o₂ ≡ over o₁ (at + 4) (twoOctets (h .sequence))
+module _ (h : Holding) (d : List ℕ) (at : ℕ) (le : at ≤ length d) where
+  pub numbers-laid : (o₁ o₂ o₃ o₄ : List ℕ) → o₁ ≡ over d at (fourOctets (h .source)) → o₂ ≡ over o₁ (at + 4) (twoOctets (h .sequence))
       → o₃ ≡ over o₂ (at + 6) (fourOctets (h .timestamp)) → o₄ ≡ over o₃ (at + 10) (h .l ∷ h .b ∷ []) → o₄ ≡ over d at (numberOctets h)
   unfolding numberOctets
-  numbers-laid o₁ o₂ o₃ o₄ le e₁ e₂ e₃ e₄ =
-      let a = fourOctets (h .source) in
-      let b = twoOctets (h .sequence) in
-      let t = fourOctets (h .timestamp) in
-      let l₁ : length a ≡ 4 = length-four (h .source) in
-      let l₂ : length (a ++ b) ≡ 6 = length-append a b ∙ omega (arith, l₁, length-two (h .sequence)) in
-      let l₃ : length (a ++ b ++ t) ≡ 10 = length-append (a ++ b) t ∙ omega (arith, l₂, length-four (h .timestamp)) in
-      let s₂ = lay-more d o₁ o₂ at (at + 4) a b le e₁ (omega arith) e₂ in
-      let s₃ = lay-more d o₂ o₃ at (at + 6) (a ++ b) t le s₂ (omega arith) e₃ in
-      lay-more d o₃ o₄ at (at + 10) (a ++ b ++ t) (h .l ∷ h .b ∷ []) le s₃ (omega arith) e₄
+  numbers-laid o₁ o₂ o₃ o₄ e₁ e₂ e₃ e₄ =
+      let s₂ = lay-more d o₁ o₂ at (at + 4) (A h) (B h) le e₁ (omega (arith, length-four (h .source))) e₂ in
+      let s₃ = lay-more d o₂ o₃ at (at + 6) (A h ++ B h) (C h) le s₂ (omega (arith, length-ab h)) e₃ in
+      lay-more d o₃ o₄ at (at + 10) (A h ++ B h ++ C h) (D h) le s₃ (omega (arith, length-abc h)) e₄
 
-  pub frames-laid : (o₁ o₂ o₃ : List ℕ) → at ≤ length d → length (h .held) ≡ 8 → length (h .marks) ≡ 80 → o₁ ≡ over d at (map flagOctet (h .held))
+  pub frames-laid : Shaped h → (o₁ o₂ o₃ : List ℕ) → o₁ ≡ over d at (map flagOctet (h .held))
       → o₂ ≡ over o₁ (at + 8) (map (shifted 242) (h .marks)) → o₃ ≡ over o₂ (at + 88) (h .room) → o₃ ≡ over d at (frameOctets h)
   unfolding frameOctets
-  frames-laid o₁ o₂ o₃ le p q e₁ e₂ e₃ =
-      let f = map flagOctet (h .held) in
-      let m = map (shifted 242) (h .marks) in
-      let l₁ : length f ≡ 8 = length-map (h .held) flagOctet ∙ p in
-      let l₂ : length (f ++ m) ≡ 88 = length-append f m ∙ omega (arith, l₁, length-map (h .marks) (shifted 242)) in
-      let s₂ = lay-more d o₁ o₂ at (at + 8) f m le e₁ (omega arith) e₂ in
-      lay-more d o₂ o₃ at (at + 88) (f ++ m) (h .room) le s₂ (omega arith) e₃
+  frames-laid x o₁ o₂ o₃ e₁ e₂ e₃ =
+      let s₂ = lay-more d o₁ o₂ at (at + 8) (F h) (M h) le e₁ (omega (arith, length-f h x)) e₂ in
+      lay-more d o₂ o₃ at (at + 88) (F h ++ M h) (h .room) le s₂ (omega (arith, length-fm h x)) e₃
 
-  pub holding-laid : (o₁ o₂ : List ℕ) → at ≤ length d → o₁ ≡ over d at (numberOctets h) → o₂ ≡ over o₁ (at + 12) (frameOctets h) → o₂ ≡ over d at (holdingOctets h)
+  pub holding-laid : (o₁ o₂ : List ℕ) → o₁ ≡ over d at (numberOctets h) → o₂ ≡ over o₁ (at + 12) (frameOctets h) → o₂ ≡ over d at (holdingOctets h)
   unfolding holdingOctets
-  holding-laid o₁ o₂ le e₁ e₂ = lay-more d o₁ o₂ at (at + 12) (numberOctets h) (frameOctets h) le e₁ (ap (λ (i : ℕ). at + i) (sym (length-numbers h))) e₂
+  holding-laid o₁ o₂ e₁ e₂ = lay-more d o₁ o₂ at (at + 12) (numberOctets h) (frameOctets h) le e₁ (ap (λ (i : ℕ). at + i) (sym (length-numbers h))) e₂
 
 -- reading one: field by field
 pub holding-read : (o : List ℕ) (at : ℕ) (h : Holding) → h .source ≡ fourAt o at → h .sequence ≡ twoAt o (at + 4) → h .timestamp ≡ fourAt o (at + 6) → h .l ≡ getD o (at + 10) 0 → h .b ≡ getD o (at + 11) 0
@@ -190,62 +151,28 @@ module _ (o : List ℕ) where
   head-group a b c = simp (le-leb _ _ a, le-leb _ _ b, le-leb _ _ c)
 
 -- ---- all of a session but its group
-length-form : (f : Form) → length (formOctets f) ≡ 3
-unfolding formOctets
-length-form HeaderFree = refl
-length-form (Interleaved m) = refl
-
 pub head-laid : (s : Session) (d o₁ o₂ o₃ o₄ o₅ o₆ o₇ : List ℕ) → o₁ ≡ over d 0 (flagOctet (s .«open») ∷ []) → o₂ ≡ over o₁ 1 (formOctets (s .form)) → o₃ ≡ over o₂ 4 (fourOctets (s .source))
     → o₄ ≡ over o₃ 8 (flagOctet (s .poured) ∷ []) → o₅ ≡ over o₄ 9 (twoOctets (s .«last_sequence»)) → o₆ ≡ over o₅ 11 (s .«last_l» ∷ s .«last_b» ∷ []) → o₇ ≡ over o₆ 13 (replicate 3 0)
     → o₇ ≡ over d 0 (sessionHead s)
 unfolding sessionHead
 head-laid s d o₁ o₂ o₃ o₄ o₅ o₆ o₇ e₁ e₂ e₃ e₄ e₅ e₆ e₇ =
-    let a = flagOctet (s .«open») ∷ [] in
-    let f = formOctets (s .form) in
-    let c = fourOctets (s .source) in
-    let p = flagOctet (s .poured) ∷ [] in
-    let q = twoOctets (s .«last_sequence») in
-    let n = s .«last_l» ∷ s .«last_b» ∷ [] in
-    let l₂ : length (a ++ f) ≡ 4 = length-append a f ∙ omega (arith, length-form (s .form)) in
-    let l₃ : length (a ++ f ++ c) ≡ 8 = length-append (a ++ f) c ∙ omega (arith, l₂, length-four (s .source)) in
-    let l₄ : length (a ++ f ++ c ++ p) ≡ 9 = length-append (a ++ f ++ c) p ∙ omega arith in
-    let l₅ : length (a ++ f ++ c ++ p ++ q) ≡ 11 = length-append (a ++ f ++ c ++ p) q ∙ omega (arith, l₄, length-two (s .«last_sequence»)) in
-    let l₆ : length (a ++ f ++ c ++ p ++ q ++ n) ≡ 13 = length-append (a ++ f ++ c ++ p ++ q) n ∙ omega arith in
     let le : 0 ≤ length d = omega arith in
-    let s₂ = lay-more d o₁ o₂ 0 1 a f le e₁ (omega arith) e₂ in
-    let s₃ = lay-more d o₂ o₃ 0 4 (a ++ f) c le s₂ (omega arith) e₃ in
-    let s₄ = lay-more d o₃ o₄ 0 8 (a ++ f ++ c) p le s₃ (omega arith) e₄ in
-    let s₅ = lay-more d o₄ o₅ 0 9 (a ++ f ++ c ++ p) q le s₄ (omega arith) e₅ in
-    let s₆ = lay-more d o₅ o₆ 0 11 (a ++ f ++ c ++ p ++ q) n le s₅ (omega arith) e₆ in
-    lay-more d o₆ o₇ 0 13 (a ++ f ++ c ++ p ++ q ++ n) (replicate 3 0) le s₆ (omega arith) e₇
-
-pub length-head : (s : Session) → length (sessionHead s) ≡ 16
-unfolding sessionHead
-length-head s = simp length-append (omega (arith, length-form (s .form), length-four (s .source), length-two (s .«last_sequence»)))
+    let s₂ = lay-more d o₁ o₂ 0 1 (O s) (G s) le e₁ (omega arith) e₂ in
+    let s₃ = lay-more d o₂ o₃ 0 4 (O s ++ G s) (S s) le s₂ (omega (arith, length-og s)) e₃ in
+    let s₄ = lay-more d o₃ o₄ 0 8 (O s ++ G s ++ S s) (P s) le s₃ (omega (arith, length-ogs s)) e₄ in
+    let s₅ = lay-more d o₄ o₅ 0 9 (O s ++ G s ++ S s ++ P s) (Q s) le s₄ (omega (arith, length-ogsp s)) e₅ in
+    let s₆ = lay-more d o₅ o₆ 0 11 (O s ++ G s ++ S s ++ P s ++ Q s) (L s) le s₅ (omega (arith, length-ogspq s)) e₆ in
+    lay-more d o₆ o₇ 0 13 (O s ++ G s ++ S s ++ P s ++ Q s ++ L s) (replicate 3 0) le s₆ (omega (arith, length-ogspql s)) e₇
 
 -- ---- in all 2,048 octets
-pub record Lengths (h : Holding) : Type 0 where
-  pub flags : length (h .held) ≡ 8
-  pub types : length (h .marks) ≡ 80
-  pub bodies : length (h .room) ≡ 1760
-
-pub length-frames : (h : Holding) → Lengths h → length (frameOctets h) ≡ 1848
-unfolding frameOctets
-length-frames h x =
-    simp length-append (omega (arith, length-map (h .held) flagOctet, length-map (h .marks) (shifted 242), x .flags, x .types, x .bodies))
-
-pub length-holding : (h : Holding) → Lengths h → length (holdingOctets h) ≡ 1860
-unfolding holdingOctets
-length-holding h x = simp length-append (omega (arith, length-numbers h, length-frames h x))
-
-pub all-of-holding : (h : Holding) → Lengths h → (d e f : List ℕ) → e ≡ over d 0 (holdingOctets h) → f ≡ over e 1860 (replicate 188 0) → f ≡ over d 0 (holdingLaid h)
+pub all-of-holding : (h : Holding) → Shaped h → (d e f : List ℕ) → e ≡ over d 0 (holdingOctets h) → f ≡ over e 1860 (replicate 188 0) → f ≡ over d 0 (holdingLaid h)
 unfolding holdingLaid
 all-of-holding h x d e f p q =
     let l : 1860 ≡ 0 + length (holdingOctets h) = omega (arith, length-holding h x) in
     let z : 0 ≤ length d = omega arith in
     lay-more d e f 0 1860 (holdingOctets h) (replicate 188 0) z p l q
 
-pub all-of-session : (s : Session) → Lengths (s .group) → (d e f g : List ℕ) → e ≡ over d 0 (sessionHead s) → f ≡ over e 16 (holdingOctets (s .group)) → g ≡ over f 1876 (replicate 172 0) → g ≡ over d 0 (sessionLaid s)
+pub all-of-session : (s : Session) → Shaped (s .group) → (d e f g : List ℕ) → e ≡ over d 0 (sessionHead s) → f ≡ over e 16 (holdingOctets (s .group)) → g ≡ over f 1876 (replicate 172 0) → g ≡ over d 0 (sessionLaid s)
 unfolding sessionLaid
 all-of-session s x d e f g p q r =
     let h = sessionHead s in

@@ -1,2 +1,3 @@
+pub mod Pieces
 pub mod LaidLaws
 pub mod CallLaws

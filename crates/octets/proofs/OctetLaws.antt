@@ -1,13 +1,13 @@
 -- Laws of lists of octets. Assumes nothing.
 use Prim.Native.Nat.{ℕ, zero, suc, _+_, _-_, _*_, _/_, _%_, _≤_, _<_}
 use mathlib.Core.Bool.{Bool, true, false, _&&_}
-use mathlib.Core.Path.{_≡_, refl, sym, ap, _∙_}
+use mathlib.Core.Path.{_≡_, refl, sym, ap, ap₂, _∙_}
 use mathlib.Core.List.{List, [], _∷_, _++_, map, append-assoc, append-nil}
-use native.Mathlib.Nat.{add-zero, sub-zero, zero-sub}
+use native.Mathlib.Nat.{add-zero, sub-zero, zero-sub, add-sub-cancel-left}
 use native.Mathlib.Numerals.{add-one}
 use native.Mathlib.Omega.{arith}
 use lib.ListN.{length-map, take-append-drop, length-take, length-drop, length-append, length-set, length-replicate, getD-replicate, length, take, drop, getD, set, replicate, drop-of-length-le}
-use lib.Seq.{take-nil, take-at, drop-at, take-append-le, take-take, drop-append-add, drop-drop, drop-cons, length-take-le, paste, paste-suc, take-all}
+use lib.Seq.{getD-take, getD-drop, take-nil, take-at, drop-at, take-append-le, take-take, drop-append-add, drop-drop, drop-cons, length-take-le, paste, paste-suc, take-all}
 use lib.Dec.{eqb}
 use borrow.Author.Tests.{eq-eqb, ne-eqb, eqb-true}
 use Rattle.octets.specs.Octets.{over, sameOctets, allZero, anySet, twoAt, fourAt, twoOctets, fourOctets}
@@ -156,6 +156,23 @@ drop-take (suc m) zero l = sym (ap (λ (k : ℕ). take k (drop (suc m) l)) (zero
 drop-take (suc m) (suc n) [] = sym (take-nil (suc n - suc m))
 drop-take (suc m) (suc n) (x ∷ xs) = drop-take m n xs ∙ ap (λ (k : ℕ). take k (drop m xs)) (sym (let e : suc n - suc m ≡ n - m = omega arith in e))
 
+-- ---- windows
+
+-- k elements at j
+pub window : (j k : ℕ) (l : List ℕ) → take k (drop j l) ≡ drop j (take (j + k) l)
+window j k l = let e : j + k - j ≡ k = omega arith in sym (drop-take j (j + k) l ∙ rw e)
+
+-- a part, as the code cuts it, `&s[j..j + k]`
+pub part-is : (l : List ℕ) (j k : ℕ) → take (j + k - j) (drop j l) ≡ take k (drop j l)
+part-is l j k = ap (λ (i : ℕ). take i (drop j l)) (add-sub-cancel-left j k)
+
+-- a window of one list behind another
+pub in-first : (xs ys : List ℕ) (j k : ℕ) → j + k ≤ length xs → take k (drop j (xs ++ ys)) ≡ take k (drop j xs)
+in-first xs ys j k h = window j k (xs ++ ys) ∙ ap (drop j) (take-append-le (j + k) xs ys h) ∙ sym (window j k xs)
+
+pub in-second : (xs ys : List ℕ) (n j k : ℕ) → length xs ≡ n → take k (drop (n + j) (xs ++ ys)) ≡ take k (drop j ys)
+in-second xs ys n j k e = ap (take k) (ap (λ (i : ℕ). drop (i + j) (xs ++ ys)) (sym e) ∙ drop-append-add xs ys j)
+
 -- a window of k elements at j, after a list was written over at `at`
 module _ (xs : List ℕ) (at : ℕ) (p : List ℕ) (fits : at + length p ≤ length xs) where
   pub length-over : length (over xs at p) ≡ length xs
@@ -175,9 +192,6 @@ module _ (xs : List ℕ) (at : ℕ) (p : List ℕ) (fits : at + length p ≤ len
       window j k (over xs at p)
       ∙ rw (append-assoc (take at xs) p (drop (at + length p) xs), take-append-le (j + k) (take at xs) (p ++ drop (at + length p) xs) (omega arith), take-take (j + k) at xs h)
       (sym (window j k xs))
-    where
-      window : (j k : ℕ) (l : List ℕ) → take k (drop j l) ≡ drop j (take (j + k) l)
-      window j k l = let e : j + k - j ≡ k = omega arith in sym (drop-take j (j + k) l ∙ rw e)
 
   pub over-after : (j k : ℕ) → at + length p ≤ j → take k (drop j (over xs at p)) ≡ take k (drop j xs)
   unfolding over
@@ -204,14 +218,24 @@ set-over (y ∷ d) (suc i) x h =
     let e : suc i + 1 ≡ suc (i + 1) = omega arith in
     rw e (ap (λ (l : List ℕ). y ∷ l) (set-over d i x (omega arith)))
 
--- two octets stored, and two numbers of two octets
+-- two octets stored one behind the other, and three
+pub set-two : (d : List ℕ) (n x y : ℕ) → n + 2 ≤ length d → set (set d n x) (n + 1) y ≡ over d n (x ∷ y ∷ [])
+set-two d n x y h =
+    let a : n < length d = omega arith in
+    let b : n + 1 < length (set d n x) = omega (arith, length-set d n x) in
+    set-over (set d n x) (n + 1) y b ∙ ap (λ (l : List ℕ). over l (n + 1) (y ∷ [])) (set-over d n x a) ∙ over-append d n (x ∷ []) (y ∷ []) (omega arith)
+
+pub set-three : (d : List ℕ) (n x y z : ℕ) → n + 3 ≤ length d → set (set (set d n x) (n + 1) y) (n + 2) z ≡ over d n (x ∷ y ∷ z ∷ [])
+set-three d n x y z h =
+    let e = set (set d n x) (n + 1) y in
+    let l : length e ≡ length d = length-set (set d n x) (n + 1) y ∙ length-set d n x in
+    let b : n + 2 < length e = omega arith in
+    set-over e (n + 2) z b ∙ ap (λ (l : List ℕ). over l (n + 2) (z ∷ [])) (set-two d n x y (omega arith)) ∙ over-append d n (x ∷ y ∷ []) (z ∷ []) (omega arith)
+
+-- a number of two octets stored, and one of four
 pub put-two-is : (d : List ℕ) (at x : ℕ) → at + 2 ≤ length d → set (set d at (x / 256)) (at + 1) (x % 256) ≡ over d at (twoOctets x)
 unfolding twoOctets
-put-two-is d at x h =
-    let a : at < length d = omega arith in
-    let b : at + 1 < length (set d at (x / 256)) = omega (arith, length-set d at (x / 256)) in
-    set-over (set d at (x / 256)) (at + 1) (x % 256) b ∙ ap (λ (e : List ℕ). over e (at + 1) (x % 256 ∷ [])) (set-over d at (x / 256) a)
-    ∙ over-append d at (x / 256 ∷ []) (x % 256 ∷ []) (omega arith)
+put-two-is d at x h = set-two d at (x / 256) (x % 256) h
 
 pub put-four-is : (d e f : List ℕ) (at x : ℕ) → at + 4 ≤ length d → e ≡ over d at (twoOctets (x / 65536)) → f ≡ over e (at + 2) (twoOctets (x % 65536)) → f ≡ over d at (fourOctets x)
 unfolding twoOctets fourOctets
@@ -229,3 +253,39 @@ two-is s at = refl
 pub four-is : (s : List ℕ) (at : ℕ) → twoAt s at * 65536 + twoAt s (at + 2) ≡ fourAt s at
 unfolding fourAt
 four-is s at = refl
+
+-- numbers are read from their windows
+pub octet-window : (s : List ℕ) (at n i : ℕ) → i < n → getD s (at + i) 0 ≡ getD (take n (drop at s)) i 0
+octet-window s at n i h = sym (getD-take n (drop at s) i 0 h ∙ getD-drop at s i 0)
+
+first-window : (s : List ℕ) (at n : ℕ) → 0 < n → getD s at 0 ≡ getD (take n (drop at s)) 0 0
+first-window s at n h = ap (λ (i : ℕ). getD s i 0) (sym (add-zero at)) ∙ octet-window s at n 0 h
+
+pub two-window : (s : List ℕ) (at : ℕ) → twoAt s at ≡ twoAt (take 2 (drop at s)) 0
+unfolding twoAt
+two-window s at = ap₂ (λ (x y : ℕ). x * 256 + y) (first-window s at 2 (omega arith)) (octet-window s at 2 1 (omega arith))
+
+pub four-window : (s : List ℕ) (at : ℕ) → fourAt s at ≡ fourAt (take 4 (drop at s)) 0
+unfolding fourAt twoAt
+four-window s at =
+    let e : at + 2 + 1 ≡ at + 3 = omega arith in
+    let d : getD s (at + 2 + 1) 0 ≡ getD (take 4 (drop at s)) 3 0 = ap (λ (i : ℕ). getD s i 0) e ∙ octet-window s at 4 3 (omega arith) in
+    ap₂ (λ (x y : ℕ). x * 65536 + y) (ap₂ (λ (x y : ℕ). x * 256 + y) (first-window s at 4 (omega arith)) (octet-window s at 4 1 (omega arith)))
+    (ap₂ (λ (x y : ℕ). x * 256 + y) (octet-window s at 4 2 (omega arith)) d)
+
+-- and read back as they were written
+pub two-back : (x : ℕ) → twoAt (twoOctets x) 0 ≡ x
+unfolding twoAt twoOctets
+two-back x = omega arith
+
+pub four-back : (x : ℕ) → fourAt (fourOctets x) 0 ≡ x
+unfolding fourAt twoAt fourOctets twoOctets
+four-back x = omega arith
+
+pub length-two : (x : ℕ) → length (twoOctets x) ≡ 2
+unfolding twoOctets
+length-two x = refl
+
+pub length-four : (x : ℕ) → length (fourOctets x) ≡ 4
+unfolding fourOctets twoOctets
+length-four x = refl

@@ -2,9 +2,10 @@
 use Prim.Native.Nat.{ℕ, suc, _+_, _-_, _≤_, _<_}
 use mathlib.Core.Path.{_≡_, sym, ap, _∙_}
 use mathlib.Core.List.{List}
-use native.Mathlib.Nat.{zero-add, add-sub-cancel-left}
+use native.Mathlib.Nat.{zero-add}
 use native.Mathlib.Omega.{arith}
 use lib.ListN.{length, take, drop, getD, length-append}
+use Rattle.octets.proofs.OctetLaws.{part-is}
 use Rattle.frame.specs.Table.{Vocoder, Frame, size}
 use Rattle.frame.specs.Entry.{typeOf}
 use Rattle.frame.specs.Places.{taken, frameAt}
@@ -40,7 +41,7 @@ pub next-body : (v : Vocoder) (l n b k : ℕ) (es : List ℕ) (fs : List Frame) 
 next-body v l n b k es fs at s x e h =
     let o : s ≡ length (frameAt fs (placeOf l n k) .body) = e ∙ x .octets in
     record {
-      part = ap (λ (i : ℕ). take i (drop (at + 1) es)) (add-sub-cancel-left (at + 1) s ∙ e) ∙ x .body;
+      part = part-is es (at + 1) s ∙ ap (λ (i : ℕ). take i (drop (at + 1) es)) e ∙ x .body;
       octets = o;
       total = ap length (bodies-next l n k fs) ∙ length-append (bodiesOf (packetFrames l n k fs)) (frameAt fs (placeOf l n k) .body) ∙ ap (λ (i : ℕ). length (bodiesOf (packetFrames l n k fs)) + i) (sym o);
       within = bodies-within l n (k + 1) b fs (omega arith);

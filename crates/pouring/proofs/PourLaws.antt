@@ -5,13 +5,13 @@ use mathlib.Core.Path.{_≡_, refl, sym, ap, ap₂, _∙_}
 use mathlib.Core.List.{List, [], _∷_, _++_, append-assoc, append-nil}
 use mathlib.Core.Logic.{⊎-elim}
 use native.Mathlib.Numerals.{add-one}
-use native.Mathlib.Nat.{zero-mul, suc-mul, mul-le-mul-right, zero-add, add-sub-cancel-left, le-refl, eq-or-lt-of-le, le-of-suc-le-suc}
+use native.Mathlib.Nat.{zero-mul, suc-mul, mul-le-mul-right, zero-add, le-refl, eq-or-lt-of-le, le-of-suc-le-suc}
 use native.Mathlib.Omega.{arith}
 use lib.ListN.{length, take, drop, getD, set, length-append, length-take, length-drop, List·getD-append}
 use lib.Seq.{getD-append-add}
 use lib.Dec.{T}
 use Rattle.octets.specs.Octets.{over}
-use Rattle.octets.proofs.OctetLaws.{over-append, over-nothing, set-over}
+use Rattle.octets.proofs.OctetLaws.{over-append, over-nothing, set-over, part-is}
 use Rattle.frame.specs.Table.{Vocoder, Frame, size, within}
 use Rattle.frame.proofs.TableLaws.{size-within}
 use Rattle.recording.specs.Entries.{entriesOf}
@@ -90,7 +90,7 @@ module _ (v : Vocoder) (w : T (within 22 v)) (ms rs : List ℕ) (long : length r
         let body = take (size v t) (drop (220 * n + 22 * k) rs) in
         let es = entriesOf (row v ms rs k n) in
         let c : take (220 * n + 22 * k + z - (220 * n + 22 * k)) (drop (220 * n + 22 * k) rs) ≡ body =
-        ap (λ (i : ℕ). take i (drop (220 * n + 22 * k) rs)) (add-sub-cancel-left (220 * n + 22 * k) z ∙ g) in
+        part-is rs (220 * n + 22 * k) z ∙ ap (λ (i : ℕ). take i (drop (220 * n + 22 * k) rs)) g in
         let one : over (set out next t) (next + 1) body ≡ over out next (t ∷ body) =
         ap (λ (d : List ℕ). over d (next + 1) body) (set-over out next t lt) ∙ over-append out next (t ∷ []) body (omega arith) in
         let at-end : next ≡ at + length es = e ∙ ap (λ (i : ℕ). at + i) (sym (length-row k n (omega arith) q)) in

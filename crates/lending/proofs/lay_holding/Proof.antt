@@ -20,7 +20,7 @@ returns c =
     let f : length (c .before .before .before .before .before .before .before .before .before .args .h .held) ≡ 8 = search needs in
     let m : length (c .before .before .before .before .before .before .before .before .before .args .h .marks) ≡ 80 = search needs in
     let r : length (c .before .before .before .before .before .before .before .before .before .args .h .room) ≡ 1760 = search needs in
-    all-of-holding _ (record { flags = f; types = m; bodies = r }) _ _ _ (c .before .before .before .before .before .before .put-holding .ensures) (c .before .before .fill .ensures)
+    all-of-holding _ (record { long-held = f; long-marks = m; long-room = r }) _ _ _ (c .before .before .before .before .before .before .put-holding .ensures) (c .before .before .fill .ensures)
 
 pub lay-holding-spec : {M : Type 1} → statement M
 lay-holding-spec = tie.close (tie.spec put-holding-requires fill-requires same-length returns)

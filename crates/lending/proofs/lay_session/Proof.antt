@@ -23,7 +23,7 @@ returns c =
     let f : length (c .before .before .before .before .before .before .before .before .before .before .before .before .before .before .args .session .group .held) ≡ 8 = search needs in
     let m : length (c .before .before .before .before .before .before .before .before .before .before .before .before .before .before .args .session .group .marks) ≡ 80 = search needs in
     let r : length (c .before .before .before .before .before .before .before .before .before .before .before .before .before .before .args .session .group .room) ≡ 1760 = search needs in
-    all-of-session _ (record { flags = f; types = m; bodies = r }) _ _ _ _ (c .before .before .before .before .before .before .before .before .before .before .before .put-head .ensures) (c .before .before .before .before .before .before .put-holding .ensures) (c .before .before .fill .ensures)
+    all-of-session _ (record { long-held = f; long-marks = m; long-room = r }) _ _ _ _ (c .before .before .before .before .before .before .before .before .before .before .before .put-head .ensures) (c .before .before .before .before .before .before .put-holding .ensures) (c .before .before .fill .ensures)
 
 pub lay-session-spec : {M : Type 1} → statement M
 lay-session-spec =

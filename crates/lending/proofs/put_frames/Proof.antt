@@ -38,7 +38,8 @@ returns : tie.Need-returns
 returns c =
     let f : length (c .before .before .before .before .before .before .before .before .before .before .before .before .before .before .before .before .before .before .before .args .h .held) ≡ 8 = search needs in
     let m : length (c .before .before .before .before .before .before .before .before .before .before .before .before .before .before .before .before .before .before .before .args .h .marks) ≡ 80 = search needs in
-    frames-laid _ _ _ _ _ _ (omega (arith, c .before .before .before .before .before .before .before .before .before .before .before .before .before .before .before .before .before .before .before .pre)) f m (c .before .before .before .before .before .before .before .before .before .before .before .before .before .before .put-flags .ensures) (c .before .before .before .before .before .before .before .before .copy-shifted .ensures) (c .before .before .copy .ensures)
+    let r : length (c .before .before .before .before .before .before .before .before .before .before .before .before .before .before .before .before .before .before .before .args .h .room) ≡ 1760 = search needs in
+    frames-laid _ _ _ (omega (arith, c .before .before .before .before .before .before .before .before .before .before .before .before .before .before .before .before .before .before .before .pre)) (record { long-held = f; long-marks = m; long-room = r }) _ _ _ (c .before .before .before .before .before .before .before .before .before .before .before .before .before .before .put-flags .ensures) (c .before .before .before .before .before .before .before .before .copy-shifted .ensures) (c .before .before .copy .ensures)
 
 pub put-frames-spec : {M : Type 1} → statement M
 put-frames-spec =

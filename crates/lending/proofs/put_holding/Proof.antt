@@ -18,7 +18,7 @@ same-length : tie.Need-same-length
 same-length c = search needs
 
 returns : tie.Need-returns
-returns c = holding-laid _ _ _ _ _ (omega (arith, c .before .before .before .before .before .before .before .before .before .pre)) (c .before .before .before .before .before .before .put-numbers .ensures) (c .before .before .put-frames .ensures)
+returns c = holding-laid _ _ _ (omega (arith, c .before .before .before .before .before .before .before .before .before .pre)) _ _ (c .before .before .before .before .before .before .put-numbers .ensures) (c .before .before .put-frames .ensures)
 
 pub put-holding-spec : {M : Type 1} → statement M
 put-holding-spec =

@@ -1,9 +1,8 @@
 -- `lending::put_pair` meets its contract.
-use mathlib.Core.Path.{refl}
 use native.Mathlib.Omega.{arith}
 use lib.ListN.{length-set}
 use borrow.Author.Needs.{needs}
-use Rattle.lending.proofs.LaidLaws.{set-two}
+use Rattle.octets.proofs.OctetLaws.{set-two}
 use Rattle.lending.proofs.put_pair.Statement.{statement}
 use Rattle.lending.proofs.put_pair.Tie as tie
 
@@ -20,7 +19,7 @@ same-length : tie.Need-same-length
 same-length c = search needs
 
 returns : tie.Need-returns
-returns c = set-two _ _ _ _ _ refl (omega arith)
+returns c = set-two _ _ _ _ (omega arith)
 
 pub put-pair-spec : {M : Type 1} → statement M
 put-pair-spec = tie.close (tie.spec slice-write-out add-out slice-write-out-2 same-length returns)

@@ -74,7 +74,7 @@ struct Read<'a> {
 }
 
 /// An interleaved payload (document 01, "Payloads").
-fn read(max_l: u8, max_b: u8, payload: &[u8]) -> Result<Read, u8> {
+fn read(max_l: u8, max_b: u8, payload: &[u8]) -> Result<Read<'_>, u8> {
     let first = *payload.first().ok_or(1)?;
     let (l, n) = (first / 8 % 8, first % 8);
     if n > l {

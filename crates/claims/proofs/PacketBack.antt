@@ -19,7 +19,7 @@ use Rattle.frame.specs.declared.Lookup.{Lookup}
 use Rattle.frame.specs.declared.Lookup.the-variants.{Found, Missing}
 use Rattle.frame.specs.declared.Form.the-variants.{HeaderFree, Interleaved}
 use Rattle.frame.specs.declared.Refusal.the-variants.{TooManyFrames, ReservedType}
-use Rattle.frame.proofs.TableLaws.{found-known, found-size}
+use Rattle.frame.proofs.TableLaws.{found-known, found-size, evrc-single}
 use Rattle.payload.specs.Payload.{packet, Table, table, fault, put, toc, total, cut, readAs}
 use Rattle.payload.specs.Payload as payload
 use Rattle.payload.proofs.Laying.{framed}
@@ -247,4 +247,4 @@ header-free-write-after-read v h p l n d f e s = go (eqb (length p) 0) refl e
 
 pub evrc-passes : EvrcPasses
 unfolding rowWith
-evrc-passes = record { narrows = tt; tellsApart = tt }
+evrc-passes = record { narrows = tt; tellsApart = tt; once = evrc-single }

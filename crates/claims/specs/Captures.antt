@@ -60,7 +60,7 @@ pub record IsRecording (v : Vocoder) (opening w : List ℕ) : Type 0 where
   pub frames : List Frame
   pub read : recorded v opening w ≡ entries.frames frames
 
--- "Otherwise it writes a recording": whatever the packets hold, also in captures that are bad
+-- "Otherwise it writes a recording", whatever the packets hold; a table that passes these tests, as EVRC does (`EvrcPasses`)
 unfoldable pub GivesARecording : Type 0
 GivesARecording =
     (v : Vocoder) → HasRoom v → T (single v v) → T (narrow v) → (opening c : List ℕ) → IsRecording v opening (recordingOf v opening c)

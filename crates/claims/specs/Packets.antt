@@ -6,7 +6,7 @@ use mathlib.Core.List.{List, [], _∷_}
 use mathlib.Core.Bool.{Bool, true, false, cond, _&&_}
 use lib.Dec.{T, eqb, ltb}
 use lib.ListN.{length, drop, getD}
-use Rattle.frame.specs.Table.{Vocoder, Frame, evrc, rowWith, sendable}
+use Rattle.frame.specs.Table.{Vocoder, Frame, evrc, rowWith, sendable, single}
 use Rattle.frame.specs.Entry.{dOf}
 use Rattle.frame.specs.Outputs.{octets}
 use Rattle.frame.specs.declared.Limits.{Limits}
@@ -83,7 +83,8 @@ HeaderFreeWriteAfterRead =
     readAs v HeaderFree p ≡ packet l n d (f ∷ []) → sendable v (f .type) (f .body) ≡ true →
     headerFreeMade v HeaderFree (entriesOf (f ∷ [])) ≡ octets p
 
--- EVRC is such a table
+-- EVRC is such a table, and its types stand in one row each
 pub record EvrcPasses : Type 0 where
   pub narrows : T (narrow evrc)
   pub tellsApart : T (tells evrc evrc)
+  pub once : T (single evrc evrc)

@@ -13,6 +13,10 @@
  * A response is
  *     u32 the number of octets that follow, u8 the call's answer, and every image, whole, in the order of the request.
  *
+ * With the argument `exact` the call is lent a copy in memory of just the lent octets' number, and the image is given what
+ * became of them; so a memory checker sees a call that reads or writes beyond them by one octet. With `short` that memory
+ * lacks the last octet, to show that this is noticed.
+ *
  * Responses may be kept back while whole requests are at hand; all are sent before the program waits for more. It ends
  * with status 0 at the end of input, and with status 1 and a line on standard error at a malformed request: one that is
  * cut, is not as long as it says, is of no known call, or has other scalars or buffers than its call takes.
@@ -42,9 +46,12 @@ struct cursor {
 };
 
 struct buffer {
-    uint8_t *image;
+    uint8_t *image, *lent;
     size_t image_len, offset, len;
 };
+
+/* What a call is lent: a part of the image, or a copy of that part, of its length or an octet less. */
+static enum { IN_IMAGE, EXACT, SHORT } lending = IN_IMAGE;
 
 struct request {
     uint8_t call, scalars, buffers;
@@ -99,6 +106,29 @@ static void take_buffer(struct cursor *cursor, struct buffer *buffer)
     memcpy(buffer->image, octets, buffer->image_len);
 }
 
+static size_t copied(const struct buffer *buffer)
+{
+    return buffer->len - (lending == SHORT && buffer->len > 0);
+}
+
+static void lend(struct buffer *buffer)
+{
+    buffer->lent = buffer->image + buffer->offset;
+    if (lending == IN_IMAGE)
+        return;
+    buffer->lent = malloc(copied(buffer));
+    demand(buffer->lent != NULL, "no memory for a copy");
+    memcpy(buffer->lent, buffer->image + buffer->offset, copied(buffer));
+}
+
+static void take_back(struct buffer *buffer)
+{
+    if (lending == IN_IMAGE)
+        return;
+    memcpy(buffer->image + buffer->offset, buffer->lent, copied(buffer));
+    free(buffer->lent);
+}
+
 static void take_request(struct cursor cursor, struct request *request)
 {
     request->call = (uint8_t)take_number(&cursor, 1);
@@ -144,7 +174,7 @@ static size_t size(const struct request *request, int place)
 
 static uint8_t *lent(const struct request *request, int place)
 {
-    return request->buffer[place].image + request->buffer[place].offset;
+    return request->buffer[place].lent;
 }
 
 static size_t len(const struct request *request, int place)
@@ -252,7 +282,12 @@ static void serve(struct cursor cursor)
 {
     static struct request request;
     take_request(cursor, &request);
-    put_response(&request, make_call(&request));
+    for (int i = 0; i < request.buffers; i++)
+        lend(&request.buffer[i]);
+    uint8_t answer = make_call(&request);
+    for (int i = 0; i < request.buffers; i++)
+        take_back(&request.buffer[i]);
+    put_response(&request, answer);
     for (int i = 0; i < request.buffers; i++)
         free(request.buffer[i].image);
 }
@@ -300,9 +335,11 @@ static int read_more(struct input *input)
     return count > 0;
 }
 
-int main(void)
+int main(int argc, char **argv)
 {
     struct input input = {NULL, 0, 0, 0};
+    if (argc > 1)
+        lending = strcmp(argv[1], "short") == 0 ? SHORT : EXACT;
     setvbuf(stdout, NULL, _IOFBF, CHUNK);
     while (read_more(&input)) {
         serve_all(&input);

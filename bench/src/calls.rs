@@ -46,7 +46,10 @@ fn frame_right(s: &[u8], b: usize, n: usize, k: usize) -> bool {
 fn packet_right(s: &[u8], l: usize, b: usize, n: usize) -> bool {
     match s[HELD + n] {
         1 => n <= l && (0..10).all(|k| frame_right(s, b, n, k)),
-        _ => zeros(&s[MARKS + 10 * n..MARKS + 10 * n + 10]) && zeros(&s[ROOM + 220 * n..ROOM + 220 * n + 220]),
+        _ => {
+            zeros(&s[MARKS + 10 * n..MARKS + 10 * n + 10])
+                && zeros(&s[ROOM + 220 * n..ROOM + 220 * n + 220])
+        }
     }
 }
 
@@ -56,11 +59,15 @@ fn holds_none(s: &[u8]) -> bool {
 
 fn holds_packet(s: &[u8]) -> bool {
     let (l, b) = (s[GROUP + 10] as usize, s[GROUP + 11] as usize);
-    l <= 7 && (1..=10).contains(&b) && (0..8).all(|n| packet_right(s, l, b, n)) && s[HELD..HELD + 8].contains(&1)
+    l <= 7
+        && (1..=10).contains(&b)
+        && (0..8).all(|n| packet_right(s, l, b, n))
+        && s[HELD..HELD + 8].contains(&1)
 }
 
 fn is_open(s: &[u8]) -> bool {
-    let flags = s[0] == 1 && s[1] <= 1 && s[8] <= 1 && s[HELD..HELD + 8].iter().all(|&flag| flag <= 1);
+    let flags =
+        s[0] == 1 && s[1] <= 1 && s[8] <= 1 && s[HELD..HELD + 8].iter().all(|&flag| flag <= 1);
     let form = s[1] == 0 || (s[2] <= 7 && (1..=10).contains(&s[3]));
     let last = s[8] == 0 || (s[11] <= 7 && (1..=10).contains(&s[12]));
     flags && form && last && (holds_none(s) || (holds_packet(s) && s[GROUP..GROUP + 4] == s[4..8]))
@@ -99,7 +106,12 @@ fn read(max_l: u8, max_b: u8, payload: &[u8]) -> Result<Read<'_>, u8> {
     match bodies.len() {
         have if have < need => Err(7),
         have if have > need => Err(8),
-        _ => Ok(Read { l, n, types, bodies }),
+        _ => Ok(Read {
+            l,
+            n,
+            types,
+            bodies,
+        }),
     }
 }
 
@@ -172,7 +184,13 @@ fn place(s: &mut [u8], sequence: u16, timestamp: u32, read: &Read) -> Result<usi
     }
 }
 
-fn offer(s: &mut [u8], source: u32, sequence: u16, timestamp: u32, payload: &[u8]) -> Result<usize, u8> {
+fn offer(
+    s: &mut [u8],
+    source: u32,
+    sequence: u16,
+    timestamp: u32,
+    payload: &[u8],
+) -> Result<usize, u8> {
     if s.len() < 2048 {
         return Err(15);
     }
@@ -197,7 +215,9 @@ fn pour(s: &mut [u8], out: &mut [u8]) -> Result<usize, u8> {
     }
     let (l, b) = (s[GROUP + 10] as usize, s[GROUP + 11] as usize);
     let octets = |n, k| size(mark(s, n, k)).unwrap_or(0);
-    let need: usize = (0..b).map(|k| (0..=l).map(|n| 1 + octets(n, k)).sum::<usize>()).sum();
+    let need: usize = (0..b)
+        .map(|k| (0..=l).map(|n| 1 + octets(n, k)).sum::<usize>())
+        .sum();
     if out.len() < need {
         return Err(15);
     }
@@ -219,7 +239,9 @@ fn pour(s: &mut [u8], out: &mut [u8]) -> Result<usize, u8> {
 }
 
 fn summed(sum: u64, octets: &[u8]) -> u64 {
-    octets.iter().fold(sum, |sum, &octet| (sum ^ octet as u64).wrapping_mul(1_099_511_628_211))
+    octets.iter().fold(sum, |sum, &octet| {
+        (sum ^ octet as u64).wrapping_mul(1_099_511_628_211)
+    })
 }
 
 fn main() {
@@ -227,7 +249,10 @@ fn main() {
         .map(|n| {
             let entries = (0..10).map(|k| if k < 9 { 0x84 } else { 0x04 });
             let bodies = (0..220u32).map(|i| (31 * n + i) as u8);
-            std::iter::once(40 + n as u8).chain(entries).chain(bodies).collect()
+            std::iter::once(40 + n as u8)
+                .chain(entries)
+                .chain(bodies)
+                .collect()
         })
         .collect();
     let (mut session, mut out) = (vec![0u8; 2048], vec![0u8; 1380]);

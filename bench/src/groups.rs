@@ -27,7 +27,9 @@ fn frame_right(h: &Holding, n: usize, k: usize) -> bool {
     let kind = h.marks[n][k];
     match size(kind) {
         None => false,
-        Some(octets) => (k < h.head.b as usize || kind == 14) && h.room[n][k][octets..].iter().all(|&x| x == 0),
+        Some(octets) => {
+            (k < h.head.b as usize || kind == 14) && h.room[n][k][octets..].iter().all(|&x| x == 0)
+        }
     }
 }
 
@@ -53,9 +55,8 @@ fn join(a: &Holding, b: &Holding) -> Result<Holding, u8> {
     if a.head != b.head {
         return Err(20);
     }
-    let differs = |n: usize| {
-        a.held[n] && b.held[n] && (a.marks[n] != b.marks[n] || a.room[n] != b.room[n])
-    };
+    let differs =
+        |n: usize| a.held[n] && b.held[n] && (a.marks[n] != b.marks[n] || a.room[n] != b.room[n]);
     if (0..8).any(differs) {
         return Err(14);
     }
@@ -72,7 +73,8 @@ fn pour(h: &Holding, out: &mut [u8]) -> Result<usize, u8> {
     if !holds(h) {
         return Err(21);
     }
-    let places = || (0..h.head.b as usize).flat_map(|k| (0..=h.head.l as usize).map(move |n| (n, k)));
+    let places =
+        || (0..h.head.b as usize).flat_map(|k| (0..=h.head.l as usize).map(move |n| (n, k)));
     let octets = |n: usize, k: usize| size(h.marks[n][k]).unwrap_or(0);
     let total: usize = places().map(|(n, k)| 1 + octets(n, k)).sum();
     if out.len() < total {
@@ -89,8 +91,19 @@ fn pour(h: &Holding, out: &mut [u8]) -> Result<usize, u8> {
 }
 
 fn half(first: usize) -> Holding {
-    let head = Head { source: 7, sequence: 65535, timestamp: 4_294_967_136, l: 5, b: 10 };
-    let mut h = Holding { head, held: [false; 8], marks: [[14; 10]; 8], room: [[[0; 22]; 10]; 8] };
+    let head = Head {
+        source: 7,
+        sequence: 65535,
+        timestamp: 4_294_967_136,
+        l: 5,
+        b: 10,
+    };
+    let mut h = Holding {
+        head,
+        held: [false; 8],
+        marks: [[14; 10]; 8],
+        room: [[[0; 22]; 10]; 8],
+    };
     for (n, x) in [(first, 0x11), (first + 2, 0x22), (first + 4, 0x33)] {
         h.held[n] = true;
         h.marks[n] = [4; 10];

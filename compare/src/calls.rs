@@ -14,14 +14,14 @@ use crate::library::{Buffer, Request, Response};
 use crate::report::Hex;
 
 /// The numbers of the calls in `serve.c`.
-const PAYLOAD_READ: u8 = 1;
-const PAYLOAD_FRAME: u8 = 2;
-const RECORDING_READ: u8 = 3;
-const RECORDING_FRAME: u8 = 4;
-const RECORDING_WRITE: u8 = 5;
-const PACKET_WRITE: u8 = 6;
-const PACKET_WRITE_HEADER_FREE: u8 = 7;
-const CAPTURE_RECORD: u8 = 8;
+pub const PAYLOAD_READ: u8 = 1;
+pub const PAYLOAD_FRAME: u8 = 2;
+pub const RECORDING_READ: u8 = 3;
+pub const RECORDING_FRAME: u8 = 4;
+pub const RECORDING_WRITE: u8 = 5;
+pub const PACKET_WRITE: u8 = 6;
+pub const PACKET_WRITE_HEADER_FREE: u8 = 7;
+pub const CAPTURE_RECORD: u8 = 8;
 
 /// The most octets of a fence.
 const FENCE: usize = 16;

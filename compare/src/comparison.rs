@@ -6,6 +6,7 @@ use crate::paper::Slip;
 use crate::report::Report;
 use crate::trial::{Case, Shown, Trial};
 use crate::trips::{Side, Stop};
+use crate::Asked;
 
 /// A comparison under way.
 pub struct Comparison<'a> {
@@ -13,6 +14,7 @@ pub struct Comparison<'a> {
     library: &'a mut Library,
     pub report: &'a mut Report,
     caught: Vec<Caught>,
+    calls: usize,
 }
 
 /// Over how many seeded cases and fixed rows a slip shows.
@@ -27,27 +29,32 @@ struct Caught {
 const BATCH: usize = 500;
 const BATCH_OCTETS: usize = 1 << 22;
 
+/// How many cases are compared before the calls made are counted again, where
+/// seeded cases go on.
+const ROUND: usize = 10_000;
+
 /// How many trips are made with each slip.
 const FEW_TRIPS: usize = 50;
 
 impl<'a> Comparison<'a> {
     /// A comparison that has to catch the slips of all these groups.
     pub fn new(
-        seed: u64,
+        asked: Asked,
         slips: &[&[Slip]],
         library: &'a mut Library,
         report: &'a mut Report,
     ) -> Comparison<'a> {
         let slips = slips.concat().into_iter();
         let caught = slips.map(|slip| Caught { slip, cases: 0, rows: 0 }).collect();
-        Comparison { rng: Rng::new(seed), library, report, caught }
+        let Asked { seed, calls } = asked;
+        Comparison { rng: Rng::new(seed), library, report, caught, calls }
     }
 
     /// Compares the library and the paper's reading with fixed rows. Each slip
     /// has to break a row, so that the paper's reading is held to more than the
     /// library.
     pub fn rows<C: Case>(&mut self, rows: Vec<C>) -> Result<(), Fault> {
-        let Comparison { rng, library, report, caught } = self;
+        let Comparison { rng, library, report, caught, .. } = self;
         let trials = rows.into_iter().map(|case| Trial::new(case, rng));
         try_all(trials, library, |trial, found| {
             trial.compare(found, report);
@@ -79,18 +86,34 @@ impl<'a> Comparison<'a> {
         make: fn(&mut Rng, usize) -> C,
         mut see: impl FnMut(&Trial<C>, &[Shown<C>]),
     ) -> Result<(), Fault> {
-        let Comparison { rng, library, report, caught } = self;
-        let trials = (0..count).map(|number| {
-            let case = make(rng, number);
-            Trial::new(case, rng)
-        });
-        try_all(trials, library, |trial, found| {
+        let Comparison { rng, library, report, caught, .. } = self;
+        try_all(trials(count, make, rng), library, |trial, found| {
             trial.compare(found, report);
             see(trial, found);
             for Caught { slip, cases, .. } in caught.iter_mut() {
                 *cases += usize::from(trial.differs(found, *slip));
             }
         })
+    }
+
+    /// Compares more seeded cases, on which no slip is tried, while one of these
+    /// calls is wanted.
+    pub fn more<C: Case>(
+        &mut self,
+        calls: &[u8],
+        make: fn(&mut Rng, usize) -> C,
+    ) -> Result<(), Fault> {
+        while self.wants(calls) {
+            let Comparison { rng, library, report, .. } = self;
+            let trials = trials(ROUND, make, rng);
+            try_all(trials, library, |trial, found| trial.compare(found, report))?;
+        }
+        Ok(())
+    }
+
+    /// Whether one of these calls was made less often than is asked.
+    pub fn wants(&self, calls: &[u8]) -> bool {
+        self.library.tally().least(calls) < self.calls
     }
 
     /// Makes so many trips through the library, all of which have to keep to a
@@ -102,7 +125,7 @@ impl<'a> Comparison<'a> {
         make: fn(&mut Rng) -> T,
         trip: impl Fn(&T, &mut Side) -> Result<(), Stop>,
     ) -> Result<(), Fault> {
-        let Comparison { rng, library, report, caught } = self;
+        let Comparison { rng, library, report, caught, .. } = self;
         let sent: Vec<T> = (0..count).map(|_| make(rng)).collect();
         for sent in &sent {
             report.case();
@@ -151,6 +174,18 @@ impl<'a> Comparison<'a> {
             self.report.slip(slip.text(), *cases, *rows);
         }
     }
+}
+
+/// So many seeded trials.
+fn trials<'a, C: Case + 'a>(
+    count: usize,
+    make: fn(&mut Rng, usize) -> C,
+    rng: &'a mut Rng,
+) -> impl Iterator<Item = Trial<C>> + 'a {
+    (0..count).map(move |number| {
+        let case = make(rng, number);
+        Trial::new(case, rng)
+    })
 }
 
 /// Tries all on the library, a batch at a time, and has each judged with what

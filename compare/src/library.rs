@@ -11,6 +11,8 @@ use std::sync::mpsc::{self, Receiver, RecvTimeoutError, Sender};
 use std::thread;
 use std::time::Duration;
 
+use crate::tally::Tally;
+
 /// Memory for a call: it is lent `len` octets of the image, from `offset` on, to
 /// read them or to write there too.
 pub struct Buffer {
@@ -42,6 +44,7 @@ pub struct Library {
     server: Child,
     requests: Sender<Vec<u8>>,
     responses: Output,
+    tally: Tally,
 }
 
 /// The octets a server sends, in chunks as they come.
@@ -73,7 +76,7 @@ impl Library {
         let (sender, chunks) = mpsc::channel();
         thread::spawn(move || read_chunks(output, sender));
         let responses = Output { chunks, chunk: Cursor::default() };
-        Ok(Library { server, requests, responses })
+        Ok(Library { server, requests, responses, tally: Tally::default() })
     }
 
     /// Asks for calls, to be made one after the other, and does not wait.
@@ -89,17 +92,25 @@ impl Library {
         let mut responses = Vec::with_capacity(requests.len());
         for request in requests {
             match Response::read(&mut self.responses, request) {
-                Ok(response) => responses.push(response),
+                Ok(response) => {
+                    self.tally.count(request, &response);
+                    responses.push(response);
+                }
                 Err(error) => return Err(self.fault(error, responses.len(), requests.len())),
             }
         }
         Ok(responses)
     }
 
+    /// How often each call was made, as far as it was answered.
+    pub fn tally(&self) -> &Tally {
+        &self.tally
+    }
+
     /// Ends the server by ending its input. It has nothing more to say, and
     /// leaves with status 0.
     pub fn end(self) -> Result<(), Fault> {
-        let Library { mut server, requests, mut responses } = self;
+        let Library { mut server, requests, mut responses, .. } = self;
         drop(requests);
         let more = io::copy(&mut responses, &mut io::sink());
         match (more, leave(&mut server)) {

@@ -13,12 +13,14 @@
 //! to link, and run
 //!
 //! ```text
-//! compare [--seed N] -- COMMAND [WORDS..]
+//! compare [--seed N] [--calls C] -- COMMAND [WORDS..]
 //! ```
 //!
 //! where COMMAND starts it: its path alone, or an emulator and its path. N is
-//! the seed of the inputs. The status is 0 if the last line says that nothing
-//! differs, else 1, or 2 for other words than these.
+//! the seed of the inputs. With C, seeded cases go on until each call was made C
+//! times at least; the slips are tried on the first of them only. A table tells
+//! how often each call was made (see `tally`). The status is 0 if the last line
+//! says that nothing differs, else 1, or 2 for other words than these.
 //!
 //! Sessions and holdings are compared by scripts too (see `script`), which this
 //! program makes and answers without the library; `desk` has the words:
@@ -55,6 +57,7 @@ mod recordings;
 mod report;
 mod script;
 mod sessions;
+mod tally;
 mod trial;
 mod trips;
 
@@ -71,47 +74,60 @@ const SEED: u64 = 20_261_115;
 
 fn main() -> ExitCode {
     let words: Vec<OsString> = env::args_os().skip(1).collect();
-    let Some((seed, command, words)) = asked(&words) else {
+    let Some((asked, command, words)) = asked(&words) else {
         return desk::serve(&words).unwrap_or_else(|| {
-            eprintln!("usage: compare [--seed N] -- COMMAND [WORDS..]");
+            eprintln!("usage: compare [--seed N] [--calls C] -- COMMAND [WORDS..]");
             eprintln!("{}", desk::USAGE);
             ExitCode::from(2)
         });
     };
     let mut report = Report::default();
-    if let Err(fault) = compare(seed, command, words, &mut report) {
+    if let Err(fault) = compare(asked, command, words, &mut report) {
         report.failure(fault);
     }
     report.close()
 }
 
-/// The seed, and the command that starts the server with its words.
-fn asked(words: &[OsString]) -> Option<(u64, &OsString, &[OsString])> {
+/// What is asked of a comparison: the seed of its inputs, and how often it makes
+/// each call at least.
+#[derive(Clone, Copy)]
+pub struct Asked {
+    pub seed: u64,
+    pub calls: usize,
+}
+
+/// What is asked, and the command that starts the server with its words.
+fn asked(words: &[OsString]) -> Option<(Asked, &OsString, &[OsString])> {
     let end = words.iter().position(|word| word == "--")?;
-    let seed = match &words[..end] {
-        [] => SEED,
-        [name, seed] if name == "--seed" => seed.to_str()?.parse().ok()?,
-        _ => return None,
-    };
+    let mut asked = Asked { seed: SEED, calls: 0 };
+    for option in words[..end].chunks(2) {
+        let [name, number] = option else { return None };
+        match (name.to_str()?, number.to_str()?) {
+            ("--seed", number) => asked.seed = number.parse().ok()?,
+            ("--calls", number) => asked.calls = number.parse().ok()?,
+            _ => return None,
+        }
+    }
     let (command, words) = words[end + 1..].split_first()?;
-    Some((seed, command, words))
+    Some((asked, command, words))
 }
 
 /// Compares every subject. A fault of the server ends this early.
 fn compare(
-    seed: u64,
+    asked: Asked,
     command: &OsString,
     words: &[OsString],
     report: &mut Report,
 ) -> Result<(), Fault> {
-    if !calls::changes_are_noticed(&mut Rng::new(seed)) {
+    if !calls::changes_are_noticed(&mut Rng::new(asked.seed)) {
         report.failure("a change to lent octets goes unnoticed");
     }
     let mut library = Library::start(command, words)?;
-    payloads::compare(seed, &mut library, report)?;
-    recordings::compare(seed, &mut library, report)?;
-    packets::compare(seed, &mut library, report)?;
-    captures::compare(seed, &mut library, report)?;
-    sessions::compare(seed, &mut library, report)?;
+    payloads::compare(asked, &mut library, report)?;
+    recordings::compare(asked, &mut library, report)?;
+    packets::compare(asked, &mut library, report)?;
+    captures::compare(asked, &mut library, report)?;
+    sessions::compare(asked, &mut library, report)?;
+    library.tally().report(asked.calls, report);
     library.end()
 }

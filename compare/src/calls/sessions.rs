@@ -17,6 +17,17 @@ const SESSION_END: u8 = 13;
 const HOLDING_JOIN: u8 = 14;
 const HOLDING_POUR: u8 = 15;
 
+/// All of them.
+pub const ALL: &[u8] = &[
+    SESSION_OPEN,
+    SESSION_OFFER,
+    SESSION_POUR,
+    SESSION_COPY,
+    SESSION_END,
+    HOLDING_JOIN,
+    HOLDING_POUR,
+];
+
 /// What is left of what a call was lent: the octets of each session or holding,
 /// the output of a pouring, and the out-parameter `lost` or `written`, which is 0
 /// for a call that has none.

@@ -8,7 +8,7 @@ mod tests;
 mod trial;
 mod trips;
 
-use crate::calls::WriteOut;
+use crate::calls::{WriteOut, CAPTURE_RECORD};
 use crate::comparison::Comparison;
 use crate::inputs::captures::{big, families, good, seeded, Case};
 use crate::inputs::packets::Group;
@@ -17,6 +17,7 @@ use crate::library::{Fault, Library};
 use crate::paper::Slip;
 use crate::report::Report;
 use crate::trial::Writable;
+use crate::Asked;
 use reached::Reached;
 
 /// The slips to catch.
@@ -76,8 +77,8 @@ const BASES: usize = 2;
 const TRIPS: usize = 200;
 
 /// Compares everything there is to captures.
-pub fn compare(seed: u64, library: &mut Library, report: &mut Report) -> Result<(), Fault> {
-    let mut comparison = Comparison::new(seed, SLIPS, library, report);
+pub fn compare(asked: Asked, library: &mut Library, report: &mut Report) -> Result<(), Fault> {
+    let mut comparison = Comparison::new(asked, SLIPS, library, report);
     comparison.rows(rows::all())?;
     compare_families(&mut comparison)?;
     let mut reached = Reached::new();
@@ -87,7 +88,8 @@ pub fn compare(seed: u64, library: &mut Library, report: &mut Report) -> Result<
     reached.report(comparison.report);
     comparison.report_slips("captures");
     comparison.law("captures recorded, read and written", TRIPS, good, trips::read_and_written)?;
-    comparison.law("packets written and recorded", TRIPS, Group::good, trips::packets_recorded)
+    comparison.law("packets written and recorded", TRIPS, Group::good, trips::packets_recorded)?;
+    comparison.more(&[CAPTURE_RECORD], seeded)
 }
 
 /// Compares whole families, of which no member is left out, and big captures.

@@ -6,12 +6,14 @@ mod rows;
 mod trial;
 mod trips;
 
+use crate::calls::{PACKET_WRITE, PACKET_WRITE_HEADER_FREE};
 use crate::comparison::Comparison;
 use crate::inputs::packets::{families, seeded, Group, Received};
 use crate::library::{Fault, Library};
 use crate::paper::Slip;
 use crate::report::Report;
 use crate::trial::{Case, WriteCase};
+use crate::Asked;
 use reached::Reached;
 
 /// The slips to catch.
@@ -28,8 +30,8 @@ const BASES: usize = 12;
 const TRIPS: usize = 500;
 
 /// Compares everything there is to packet writing.
-pub fn compare(seed: u64, library: &mut Library, report: &mut Report) -> Result<(), Fault> {
-    let mut comparison = Comparison::new(seed, SLIPS, library, report);
+pub fn compare(asked: Asked, library: &mut Library, report: &mut Report) -> Result<(), Fault> {
+    let mut comparison = Comparison::new(asked, SLIPS, library, report);
     comparison.rows(rows::interleaved())?;
     comparison.rows(rows::header_free())?;
     compare_families(&mut comparison)?;
@@ -40,7 +42,8 @@ pub fn compare(seed: u64, library: &mut Library, report: &mut Report) -> Result<
     reached.report(comparison.report);
     comparison.report_slips("packet writing");
     comparison.law("packets written and read", TRIPS, Group::good, trips::read_after_write)?;
-    comparison.law("packets read and written", TRIPS, Received::good, trips::write_after_read)
+    comparison.law("packets read and written", TRIPS, Received::good, trips::write_after_read)?;
+    comparison.more(&[PACKET_WRITE, PACKET_WRITE_HEADER_FREE], seeded)
 }
 
 /// Compares whole families, of which no member is left out.

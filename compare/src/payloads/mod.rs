@@ -4,12 +4,14 @@ mod reached;
 mod rows;
 mod trial;
 
+use crate::calls::{PAYLOAD_FRAME, PAYLOAD_READ};
 use crate::comparison::Comparison;
 use crate::inputs::payloads::{self, Payload};
 use crate::library::{Fault, Library};
 use crate::paper::Slip;
 use crate::report::Report;
 use crate::trial::{Case, ReadCase};
+use crate::Asked;
 use reached::Reached;
 
 /// The slips to catch.
@@ -22,8 +24,8 @@ const SEEDED: usize = 60_000;
 const BASES: usize = 32;
 
 /// Compares everything there is to payload reading.
-pub fn compare(seed: u64, library: &mut Library, report: &mut Report) -> Result<(), Fault> {
-    let mut comparison = Comparison::new(seed, SLIPS, library, report);
+pub fn compare(asked: Asked, library: &mut Library, report: &mut Report) -> Result<(), Fault> {
+    let mut comparison = Comparison::new(asked, SLIPS, library, report);
     comparison.rows(rows::marked().into_iter().chain(rows::further()).collect())?;
     compare_families(&mut comparison)?;
     let mut reached = Reached::new();
@@ -32,7 +34,7 @@ pub fn compare(seed: u64, library: &mut Library, report: &mut Report) -> Result<
     })?;
     reached.report(comparison.report);
     comparison.report_slips("payload reading");
-    Ok(())
+    comparison.more(&[PAYLOAD_READ, PAYLOAD_FRAME], payloads::seeded)
 }
 
 /// Compares whole families, of which no member is left out.

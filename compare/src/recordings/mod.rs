@@ -6,6 +6,7 @@ mod rows;
 mod trial;
 mod trips;
 
+use crate::calls::{RECORDING_FRAME, RECORDING_READ, RECORDING_WRITE};
 use crate::comparison::Comparison;
 use crate::inputs::frames::few;
 use crate::inputs::recordings;
@@ -13,6 +14,7 @@ use crate::library::{Fault, Library};
 use crate::paper::Slip;
 use crate::report::Report;
 use crate::trial::{Case, ReadCase, WriteCase};
+use crate::Asked;
 
 /// The slips of readers and of the writer to catch.
 const READ_SLIPS: &[&[Slip]] = &[Slip::TYPES, Slip::ENTRIES, Slip::READER, Slip::RECORDING_READ];
@@ -28,9 +30,9 @@ const BASES: usize = 24;
 const TRIPS: usize = 1_000;
 
 /// Compares everything there is to recordings.
-pub fn compare(seed: u64, library: &mut Library, report: &mut Report) -> Result<(), Fault> {
-    compare_reading(&mut Comparison::new(seed, READ_SLIPS, library, report))?;
-    compare_writing(&mut Comparison::new(seed, WRITE_SLIPS, library, report))
+pub fn compare(asked: Asked, library: &mut Library, report: &mut Report) -> Result<(), Fault> {
+    compare_reading(&mut Comparison::new(asked, READ_SLIPS, library, report))?;
+    compare_writing(&mut Comparison::new(asked, WRITE_SLIPS, library, report))
 }
 
 fn compare_reading(comparison: &mut Comparison) -> Result<(), Fault> {
@@ -45,7 +47,9 @@ fn compare_reading(comparison: &mut Comparison) -> Result<(), Fault> {
     })?;
     reached.report(comparison.report);
     comparison.report_slips("recording reading");
-    comparison.law("recordings read and written", TRIPS, recordings::plain, trips::write_after_read)
+    let law = "recordings read and written";
+    comparison.law(law, TRIPS, recordings::plain, trips::write_after_read)?;
+    comparison.more(&[RECORDING_READ, RECORDING_FRAME], recordings::seeded_to_read)
 }
 
 fn compare_writing(comparison: &mut Comparison) -> Result<(), Fault> {
@@ -59,5 +63,6 @@ fn compare_writing(comparison: &mut Comparison) -> Result<(), Fault> {
     comparison.report_slips("recording writing");
     comparison.law("recordings written and read", TRIPS, few, |sent, side| {
         trips::read_after_write(sent, side)
-    })
+    })?;
+    comparison.more(&[RECORDING_WRITE], recordings::seeded_to_write)
 }

@@ -8,14 +8,15 @@ mod tests;
 mod trial;
 mod trips;
 
-use crate::calls::sessions::{told, Left};
+use crate::calls::sessions::{told, Left, ALL};
 use crate::calls::Told;
 use crate::comparison::Comparison;
-use crate::inputs::sessions::{families, seeded, Sequence, Shelf, Step};
+use crate::inputs::sessions::{evenly_seeded, families, seeded, Sequence, Shelf, Step};
 use crate::inputs::Rng;
 use crate::library::{Fault, Library, Request};
 use crate::paper::Slip;
 use crate::report::Report;
+use crate::Asked;
 use reached::Reached;
 use trial::Difference;
 
@@ -40,8 +41,8 @@ const SEEDED: usize = 200;
 const TRIPS: usize = 60;
 
 /// Compares everything there is to sessions and holdings.
-pub fn compare(seed: u64, library: &mut Library, report: &mut Report) -> Result<(), Fault> {
-    let mut comparison = Comparison::new(seed, SLIPS, library, report);
+pub fn compare(asked: Asked, library: &mut Library, report: &mut Report) -> Result<(), Fault> {
+    let mut comparison = Comparison::new(asked, SLIPS, library, report);
     let slips = comparison.slips();
     for shown in play(&mut comparison, rows::all(), &slips, |_, _, _| {})? {
         comparison.count(&shown, true);
@@ -51,7 +52,8 @@ pub fn compare(seed: u64, library: &mut Library, report: &mut Report) -> Result<
     compare_seeded(&mut comparison, &slips)?;
     comparison.report_slips("sessions and holdings");
     let law = "equal knowledge is equal octets";
-    comparison.law(law, TRIPS, trips::Together::new, trips::equal_octets)
+    comparison.law(law, TRIPS, trips::Together::new, trips::equal_octets)?;
+    compare_more(&mut comparison)
 }
 
 /// Compares seeded sequences.
@@ -63,6 +65,15 @@ fn compare_seeded(comparison: &mut Comparison, slips: &[Slip]) -> Result<(), Fau
         comparison.count(&shown, false);
     }
     reached.report(comparison.report);
+    Ok(())
+}
+
+/// Compares more sequences, on which no slip is tried, while a call is wanted.
+fn compare_more(comparison: &mut Comparison) -> Result<(), Fault> {
+    while comparison.wants(ALL) {
+        let sequences = (0..SEEDED).map(|_| evenly_seeded(&mut comparison.rng)).collect();
+        play(comparison, sequences, &[], |_, _, _| {})?;
+    }
     Ok(())
 }
 

@@ -39,13 +39,8 @@ const HARM: [Kind; 11] = [
     Kind::FramePastB,
     Kind::Random,
 ];
-const NO_HARM: [Kind; 5] = [
-    Kind::AnyOctet,
-    Kind::HeldErasures,
-    Kind::BodyOctet,
-    Kind::BaseNumbers,
-    Kind::NotLookedAt,
-];
+const NO_HARM: [Kind; 5] =
+    [Kind::AnyOctet, Kind::HeldErasures, Kind::BodyOctet, Kind::BaseNumbers, Kind::NotLookedAt];
 
 /// The same in a session alone, and in a holding alone.
 const SESSION_HARM: [Kind; 8] = [
@@ -58,14 +53,8 @@ const SESSION_HARM: [Kind; 8] = [
     Kind::LastB,
     Kind::NoPacket,
 ];
-const SESSION_NO_HARM: [Kind; 6] = [
-    Kind::FormOctet,
-    Kind::Maxima,
-    Kind::PouredFlag,
-    Kind::LastL,
-    Kind::LastB,
-    Kind::LastSequence,
-];
+const SESSION_NO_HARM: [Kind; 6] =
+    [Kind::FormOctet, Kind::Maxima, Kind::PouredFlag, Kind::LastL, Kind::LastB, Kind::LastSequence];
 const HOLDING_NO_HARM: [Kind; 1] = [Kind::Source];
 
 /// The answers, and what was seen on the way.
@@ -144,8 +133,9 @@ impl Reached {
             .flat_map(|session| [(&HARM[..], session, true), (&NO_HARM[..], session, false)])
             .chain([(&SESSION_HARM[..], true, true), (&SESSION_NO_HARM[..], true, false)])
             .chain([(&HOLDING_NO_HARM[..], false, false)]);
-        let spoilt = spoilings
-            .flat_map(|(kinds, session, harm)| kinds.iter().map(move |&kind| (kind, session, harm)));
+        let spoilt = spoilings.flat_map(|(kinds, session, harm)| {
+            kinds.iter().map(move |&kind| (kind, session, harm))
+        });
         demand(report, "spoiling, of a session, with harm", &self.spoilt, spoilt);
         let rooms = [(15, -1), (0, 0), (0, 1)];
         let rooms = [2, 6].into_iter().flat_map(|call| rooms.map(|(a, left)| (call, a, left)));

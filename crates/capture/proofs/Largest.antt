@@ -19,7 +19,7 @@ use Rattle.frame.proofs.TableLaws.{size-within, erasure-listed}
 use Rattle.frame.specs.Outputs.{Made}
 use Rattle.frame.specs.Outputs as outputs
 use Rattle.recording.specs.Entries.{entriesOf}
-use Rattle.holding.specs.Group.{region, erased, samePackets, nothing, isNothing, heldAt, packetOf, withPacket, begun, holds, rightAt}
+use Rattle.holding.specs.Group.{region, erased, samePackets, isNothing, heldAt, packetOf, withPacket, begun, holds, rightAt}
 use Rattle.holding.specs.declared.Holding.{Holding}
 use Rattle.holding.specs.declared.Packet.{Packet}
 use Rattle.holding.proofs.GroupLaws.{all-at, packet-lost, sound-has, holds-sound, nothing-is, sound-something}
@@ -59,9 +59,6 @@ module _ (v : Vocoder) (w : T (within 22 v)) (z : T (erases v)) (h : Holding) (r
   unfolding frameIn
   body-small n k p q = go (heldAt h n) refl
     where
-      t : ℕ
-      t = getD (h .marks) (10 * n + k) 0
-
       go : (b : Bool) → heldAt h n ≡ b → length (take (size v (getD (h .marks) (10 * n + k) 0)) (drop (220 * n + 22 * k) (h .room))) ≤ cond b 22 0
       go true e = simp length-take (omega (arith, size-within 22 v (getD (h .marks) (10 * n + k) 0) w))
       go false e =

@@ -38,7 +38,7 @@ use Rattle.capture.proofs.Largest.{pour-most, lost-few, run-few, all-fe
 use Rattle.capture.proofs.TableLaws.{good-is}
 
 -- ---- a run over one list and then another, and over one packet more
-pub run-append : (v : Vocoder) (s : Session) (hs ks : List Heard) → runOf v s (hs ++ ks) ≡ andThen (runOf v s hs) (λ t. runOf v t ks)
+run-append : (v : Vocoder) (s : Session) (hs ks : List Heard) → runOf v s (hs ++ ks) ≡ andThen (runOf v s hs) (λ t. runOf v t ks)
 unfolding runOf andThen
 run-append v s [] ks = refl
 run-append v s (h ∷ hs) ks =
@@ -51,7 +51,7 @@ one-step : (v : Vocoder) (s : Session) (h : Heard) → runOf v s (h ∷ []) ≡ 
 unfolding runOf andThen
 one-step v s h = ap (λ (o : List ℕ). record { session = stepOf v s h .session; octets = o }) (append-nil (stepOf v s h .octets))
 
-pub run-more : (v : Vocoder) (s : Session) (f : ℕ → Heard) (i : ℕ) → runOf v s (upTo f (i + 1)) ≡ andThen (runOf v s (upTo f i)) (λ t. stepOf v t (f i))
+run-more : (v : Vocoder) (s : Session) (f : ℕ → Heard) (i : ℕ) → runOf v s (upTo f (i + 1)) ≡ andThen (runOf v s (upTo f i)) (λ t. stepOf v t (f i))
 unfolding andThen
 run-more v s f i =
     let a = runOf v s (upTo f i) in
@@ -63,7 +63,7 @@ pub first-none : (c : List ℕ) (n : ℕ) → n ≡ countOf c → n ≡ 0 → ne
 unfolding packetsIn firstSession upTo
 first-none c n e z = let q : countOf c ≡ 0 = sym e ∙ z in rw q
 
-pub first-some : (c : List ℕ) (n : ℕ) → n ≡ countOf c → (n ≡ 0 → ⊥) → fresh (heardAt c 0 .source) captureForm ≡ firstSession (packetsIn c)
+first-some : (c : List ℕ) (n : ℕ) → n ≡ countOf c → (n ≡ 0 → ⊥) → fresh (heardAt c 0 .source) captureForm ≡ firstSession (packetsIn c)
 unfolding packetsIn firstSession
 first-some c n e z = go (countOf c) (λ (q : countOf c ≡ 0). z (e ∙ q))
   where
@@ -85,10 +85,10 @@ offer-heard v s c i source sequence timestamp start size r a b d e f q =
     rw (← a, ← b, ← d, ← p) q
 
 -- ---- written where it fits
-pub put-nothing : (d : List ℕ) (at : ℕ) → Put d at [] d
+put-nothing : (d : List ℕ) (at : ℕ) → Put d at [] d
 put-nothing d at h = over-nothing d at
 
-pub put-then : (d e f : List ℕ) (at : ℕ) (xs ys : List ℕ) → Put d at xs e → Put e (at + length xs) ys f → Put d at (xs ++ ys) f
+put-then : (d e f : List ℕ) (at : ℕ) (xs ys : List ℕ) → Put d at xs e → Put e (at + length xs) ys f → Put d at (xs ++ ys) f
 put-then d e f at xs ys p q h =
     let n = length-append xs ys in
     let a : e ≡ over d at xs = p (omega arith) in
@@ -96,7 +96,7 @@ put-then d e f at xs ys p q h =
     q (omega arith) ∙ ap (λ (o : List ℕ). over o (at + length xs) ys) a ∙ over-append d at xs ys (omega arith)
 
 -- ---- steps that are done
-pub does-then : (a g : Step) (f : Session → Step) (at : ℕ) (d e e′ : List ℕ) (r r′ : Run) → Does a at d r e → g ≡ f (a .session) → Does g (r .octets) e r′ e′ → Does (andThen a f) at d r′ e′
+does-then : (a g : Step) (f : Session → Step) (at : ℕ) (d e e′ : List ℕ) (r r′ : Run) → Does a at d r e → g ≡ f (a .session) → Does g (r .octets) e r′ e′ → Does (andThen a f) at d r′ e′
 unfolding andThen
 does-then a g f at d e e′ r r′ x q y =
     let n : length (g .octets) ≡ length (f (a .session) .octets) = ap (λ (b : Step). length (b .octets)) q in
@@ -108,7 +108,7 @@ does-then a g f at d e e′ r r′ x q y =
       written = put-then d e e′ at (a .octets) ys (x .written) p;
     }
 
-pub does-as : (a b : Step) (at : ℕ) (d e : List ℕ) (r : Run) → a ≡ b → Does a at d r e → Does b at d r e
+does-as : (a b : Step) (at : ℕ) (d e : List ℕ) (r : Run) → a ≡ b → Does a at d r e → Does b at d r e
 does-as a b at d e r q x = rw (← q) x
 
 -- nothing is done
@@ -136,15 +136,15 @@ pub twelve-is : (r : Refusal) (n : ℕ) → n ≡ numberOf r → eqb n 12 ≡ is
 unfolding isTwelve
 twelve-is r n e = ap (λ (i : ℕ). eqb i 12) e
 
-pub step-later : (v : Vocoder) (s : Session) (h : Heard) (b : Bool) → b ≡ isTwelve (offeredTo v s h .answer) → b ≡ true → andThen (pouring v s) (λ t. offering v t h) ≡ stepOf v s h
+step-later : (v : Vocoder) (s : Session) (h : Heard) (b : Bool) → b ≡ isTwelve (offeredTo v s h .answer) → b ≡ true → andThen (pouring v s) (λ t. offering v t h) ≡ stepOf v s h
 unfolding stepOf
 step-later v s h b e q = let z : isTwelve (offeredTo v s h .answer) ≡ true = sym e ∙ q in simp z
 
-pub step-once : (v : Vocoder) (s : Session) (h : Heard) (b : Bool) → b ≡ isTwelve (offeredTo v s h .answer) → b ≡ false → offering v s h ≡ stepOf v s h
+step-once : (v : Vocoder) (s : Session) (h : Heard) (b : Bool) → b ≡ isTwelve (offeredTo v s h .answer) → b ≡ false → offering v s h ≡ stepOf v s h
 unfolding stepOf
 step-once v s h b e q = let z : isTwelve (offeredTo v s h .answer) ≡ false = sym e ∙ q in simp z
 
-pub offering-is : (v : Vocoder) (s : Session) (h : Heard) (o : Offered) → o ≡ offeredTo v s h → takenOf s (o .session) (o .answer) ≡ offering v s h
+offering-is : (v : Vocoder) (s : Session) (h : Heard) (o : Offered) → o ≡ offeredTo v s h → takenOf s (o .session) (o .answer) ≡ offering v s h
 unfolding offering
 offering-is v s h o e = ap (λ (x : Offered). takenOf s (x .session) (x .answer)) e
 

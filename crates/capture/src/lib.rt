@@ -14,7 +14,7 @@ ghost use lib.Dec.{leb};
 ghost use Rattle.frame.specs.Table.{evrc, erasure};
 ghost use Rattle.recording.specs.Recording.{evrcOpening};
 ghost use Rattle.capture.specs.Table.{countOf, lengthAt, lengths, startAt, heardAt, packetsIn, good};
-ghost use Rattle.capture.specs.Run.{firstSession, offeredTo, lostIn, largest, takenOf, isTwelve, offering, pouring, stepOf, runOf, recordingOf, Put, Does, recorded, outputOf};
+ghost use Rattle.capture.specs.Run.{firstSession, offeredTo, lostIn, largest, takenOf, isTwelve, pouring, stepOf, runOf, recordingOf, Put, Does, recorded, outputOf};
 
 // The most octets that the recording of a capture can have.
 pub const LARGEST: usize = 331807;

@@ -21,7 +21,7 @@ use Rattle.recording.specs.Entries.{frames, allowed, entriesOf}
 use Rattle.recording.specs.Recording.{recorded}
 use Rattle.recording.specs.declared.Rule.the-variants.{Any}
 use Rattle.recording.proofs.Opening.{begins-self}
-use Rattle.holding.specs.Group.{nothing, isNothing, heldAt, packetOf, withPacket, begun, holds}
+use Rattle.holding.specs.Group.{isNothing, heldAt, packetOf, withPacket, begun, holds}
 use Rattle.holding.specs.LaidOut.{laid}
 use Rattle.holding.specs.declared.Holding.{Holding}
 use Rattle.holding.proofs.GroupLaws.{sound-has, holds-sound, sound-something, nothing-is}

@@ -2,7 +2,7 @@
 use Prim.Native.Nat.{ℕ, _+_, _-_, _*_, _%_, _≤_, _<_}
 use mathlib.Core.Path.{_≡_, refl, sym, ap, ap₂, subst, _∙_}
 use mathlib.Core.List.{List, [], _∷_}
-use mathlib.Core.Bool.{Bool, true, false, not, cond, _&&_, _||_}
+use mathlib.Core.Bool.{Bool, true, false, cond, _&&_, _||_}
 use native.Mathlib.Omega.{arith}
 use lib.Dec.{eqb, leb}
 use lib.ListN.{length}
@@ -18,7 +18,7 @@ use Rattle.packet.specs.Packet.{placeOf, packetFrames}
 use Rattle.packet.proofs.Numbering.{place-in}
 use Rattle.packet.proofs.Packing.{length-packet, packet-at}
 use Rattle.holding.specs.Bases.{minus, baseSequence, baseTimestamp}
-use Rattle.holding.specs.Group.{isNothing, begun, heldAt, packetOf, withPacket, samePackets, holds}
+use Rattle.holding.specs.Group.{isNothing, begun, heldAt, packetOf, withPacket, samePackets}
 use Rattle.holding.specs.LaidOut.{laid}
 use Rattle.holding.specs.declared.Holding.{Holding}
 use Rattle.pouring.specs.Pouring.{inTime}

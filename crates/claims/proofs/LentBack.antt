@@ -25,12 +25,12 @@ use Rattle.claims.specs.Packets.{AreOctets}
 use Rattle.claims.specs.Lent.{HoldingReadsBack, SessionReadsBack}
 
 -- ---- flags and types
-pub flags-back : (fs : List Bool) → map isSet (map flagOctet fs) ≡ fs
+flags-back : (fs : List Bool) → map isSet (map flagOctet fs) ≡ fs
 flags-back [] = refl
 flags-back (true ∷ fs) = ap (λ (l : List Bool). true ∷ l) (flags-back fs)
 flags-back (false ∷ fs) = ap (λ (l : List Bool). false ∷ l) (flags-back fs)
 
-pub types-back : (ts : List ℕ) → AreOctets ts → map (shifted 14) (map (shifted 242) ts) ≡ ts
+types-back : (ts : List ℕ) → AreOctets ts → map (shifted 14) (map (shifted 242) ts) ≡ ts
 types-back [] h = refl
 types-back (t ∷ ts) h =
     let e : ((t + 242) % 256 + 14) % 256 ≡ t = omega (arith, h .0) in
@@ -91,7 +91,7 @@ module _ (h : Holding) (x : Shaped h) (z : AreOctets (h .marks)) where
     size-at i j e p =
         ap (λ (y : ℕ). getD o y 0) e ∙ octet-window o (at + 10) 2 i p ∙ ap (λ (w : List ℕ). getD w i 0) (there 10 2 (omega arith) ∙ sizes-piece)
 
-    pub holding-back : holdingAt o at ≡ h
+    holding-back : holdingAt o at ≡ h
     unfolding holdingAt
     holding-back =
         same-fields (four-window o at ∙ ap (λ (w : List ℕ). fourAt w 0) (first 4 (omega arith) ∙ source-piece) ∙ four-back (h .source))
@@ -103,7 +103,7 @@ module _ (h : Holding) (x : Shaped h) (z : AreOctets (h .marks)) where
         (ap (map (shifted 14)) (there 20 80 (omega arith) ∙ types-piece) ∙ types-back (h .marks) z)
         (there 100 1760 (omega arith) ∙ room-piece)
 
-    pub flags-right : flagsAt o (at + 12) ≡ true
+    flags-right : flagsAt o (at + 12) ≡ true
     unfolding flagsAt
     flags-right = all-intro (λ n. isFlag (getD o (at + 12 + n) 0)) 8 (λ (n : ℕ) (p : n < 8). right n p)
       where
@@ -221,7 +221,7 @@ module _ (s : Session) where
         let b : getD all 8 0 ≤ 1 = leb-true _ _ (ap isFlag is-poured ∙ flag-right (s .poured)) in
         sym (head-group all a form-flag b) ∙ flags-right (s .group) x z all 16 group-there
 
-    pub session-back : sessionIn all ≡ s
+    session-back : sessionIn all ≡ s
     session-back =
         sym
         (session-there all s is-session

@@ -8,7 +8,7 @@ use native.Mathlib.Omega.{arith}
 use native.Mathlib.Nat.{mod-lt, div-lt-iff-lt-mul, mod-eq-of-lt, mod-add-mod, mod-self, div-add-mod, mul-comm, eq-or-lt-of-le}
 use lib.Dec.{eqb, ltb}
 use borrow.Author.Tests.{lt-ltb, le-ltb, eqb-true, eqb-false, ltb-true, ltb-false}
-use Rattle.frame.specs.Table.{Vocoder, Frame, erasure}
+use Rattle.frame.specs.Table.{Vocoder, Frame}
 use Rattle.frame.specs.Places.{frameAt, upTo}
 use Rattle.frame.specs.declared.Form.{Form}
 use Rattle.packet.specs.Packet.{placeOf}

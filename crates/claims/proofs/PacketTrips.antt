@@ -69,14 +69,11 @@ entries-fit v ok (f ∷ fs) p at e =
     )
 
 -- ---- the table of contents and the bodies are read back
-last-type : (d t : ℕ) → t < 64 → typeOf (0 + d * 64 + t) ≡ t
-last-type d t h = omega arith
+entry-type : (f d t : ℕ) → t < 64 → typeOf (f * 128 + d * 64 + t) ≡ t
+entry-type f d t h = omega arith
 
 last-d : (d t : ℕ) → d ≤ 1 → t < 64 → dOf (0 + d * 64 + t) ≡ d
 last-d d t g h = omega arith
-
-more-type : (d t : ℕ) → t < 64 → typeOf (128 + d * 64 + t) ≡ t
-more-type d t h = omega arith
 
 toc-back : (v : Vocoder) (max at d : ℕ) (fs : List Frame) (rest : List ℕ) → d ≤ 1 → 0 < length fs → at + length fs ≤ max → Fit v fs → toc v max at (tocOf d (typesOf fs) ++ rest) ≡ table (typesOf fs) d rest
 unfolding toc
@@ -86,14 +83,14 @@ toc-back v max at d (f ∷ []) rest g s h w =
     let t = f .type in
     let i : t < 64 = w .0 .small in
     let b : 0 + d * 64 + t < 128 = omega arith in
-    simp (lt-leb max at a, last-type d t i, w .0 .known, lt-leb 128 (0 + d * 64 + t) b, last-d d t g i)
+    simp (lt-leb max at a, entry-type 0 d t i, w .0 .known, lt-leb 128 (0 + d * 64 + t) b, last-d d t g i)
 toc-back v max at d (f ∷ k ∷ fs) rest g s h w =
     let a : at < max = omega arith in
     let t = f .type in
     let i : t < 64 = w .0 .small in
     let b : 128 ≤ 128 + d * 64 + t = omega arith in
     let r = toc-back v max (at + 1) d (k ∷ fs) rest g (omega arith) (omega arith) (w .1) in
-    simp (lt-leb max at a, more-type d t i, w .0 .known, le-leb 128 (128 + d * 64 + t) b)
+    simp (lt-leb max at a, entry-type 1 d t i, w .0 .known, le-leb 128 (128 + d * 64 + t) b)
     (ap (put t) r)
 
 total-back : (v : Vocoder) (fs : List Frame) → Fit v fs → total v (typesOf fs) ≡ length (bodiesOf fs)

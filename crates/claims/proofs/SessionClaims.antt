@@ -14,7 +14,7 @@ use Rattle.frame.specs.declared.Refusal.the-variants.{NotApplicable}
 use Rattle.payload.specs.Payload.{packet}
 use Rattle.recording.specs.Entries.{entriesOf}
 use Rattle.holding.specs.Bases.{baseSequence}
-use Rattle.holding.specs.Group.{nothing, packetOf, samePackets, holds}
+use Rattle.holding.specs.Group.{packetOf, samePackets, holds}
 use Rattle.holding.specs.LaidOut.{laid}
 use Rattle.holding.proofs.GroupLaws.{nothing-is}
 use Rattle.pouring.specs.Pouring.{inTime, poured}

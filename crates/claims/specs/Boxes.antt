@@ -5,10 +5,9 @@ use mathlib.Core.List.{List, [], _∷_}
 use mathlib.Core.Bool.{Bool, false, _||_}
 use Rattle.frame.specs.Table.{Vocoder}
 use Rattle.frame.specs.declared.Form.{Form}
-use Rattle.payload.specs.Payload.{packet}
 use Rattle.holding.specs.declared.Holding.{Holding}
 use Rattle.knowledge.specs.Knowledge.{Among}
-use Rattle.session.specs.Session.{offered, copied}
+use Rattle.session.specs.Session.{copied}
 use Rattle.holding.specs.declared.Answer.the-variants.{Done}
 use Rattle.session.specs.declared.Session.{Session}
 use Rattle.claims.specs.Joinings.{HasRoom, Way, boxes, done, outcome}

@@ -1,4 +1,5 @@
--- Sessions and holdings in octets that a host lends: what holds of every such octets. Over any frame table.
+-- Document 01, "Session", on sessions and holdings in octets that a host lends ("Capture program"): what holds of every such octets. Over any
+-- frame table.
 use Prim.Native.Nat.{ℕ, _<_}
 use mathlib.Core.Path.{_≡_}
 use mathlib.Core.List.{List}

@@ -8,9 +8,7 @@ use lib.ListN.{length}
 use Rattle.frame.specs.Table.{Vocoder, Frame, erasure}
 use Rattle.frame.specs.Places.{frameAt}
 use Rattle.frame.specs.declared.Form.{Form}
-use Rattle.payload.specs.Payload.{packet}
 use Rattle.pouring.specs.Pouring.{inTime}
-use Rattle.session.specs.Session.{offered}
 use Rattle.session.specs.declared.Session.{Session}
 use Rattle.claims.specs.Joinings.{HasRoom}
 use Rattle.claims.specs.Demand3.{Sent, among, HoldsExactly}

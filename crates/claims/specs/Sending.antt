@@ -8,7 +8,6 @@ use lib.ListN.{length}
 use Rattle.frame.specs.Table.{Vocoder, Frame, evrc, rowOf, erasure}
 use Rattle.frame.specs.Places.{frameAt}
 use Rattle.frame.specs.declared.Form.{Form}
-use Rattle.payload.specs.Payload.{packet}
 use Rattle.packet.specs.Packet.{groupIn}
 use Rattle.packet.specs.Writing.{packetMade, headerFreeMade}
 use Rattle.frame.specs.Agreed.{inRange}

@@ -63,11 +63,11 @@ listed-at v (f ∷ fs) zero w h = w .0
 listed-at v (f ∷ fs) (suc k) w h = listed-at v fs k (w .1) (omega arith)
 
 -- ---- a part
-pub not-there : (l : Located) (p : List ℕ) → liesIn l p ≡ false → ([] ≡ partOf l p) × (0 ≡ partStart l p)
+not-there : (l : Located) (p : List ℕ) → liesIn l p ≡ false → ([] ≡ partOf l p) × (0 ≡ partStart l p)
 unfolding partOf partStart
 not-there l p e = (rw e, rw e)
 
-pub there : (l : Located) (p : List ℕ) → liesIn l p ≡ true → (take (sizeOf l) (drop (startOf l) p) ≡ partOf l p) × (startOf l ≡ partStart l p)
+there : (l : Located) (p : List ℕ) → liesIn l p ≡ true → (take (sizeOf l) (drop (startOf l) p) ≡ partOf l p) × (startOf l ≡ partStart l p)
 unfolding partOf partStart
 there l p e = (rw e, rw e)
 
@@ -80,7 +80,7 @@ module _ (t s z : ℕ) (p : List ℕ) where
   unfolding liesIn
   ends-past h k = simp (le-leb _ _ h, lt-leb _ _ k)
 
-  pub inside : s + z ≤ length p → liesIn (At t s z) p ≡ true
+  inside : s + z ≤ length p → liesIn (At t s z) p ≡ true
   unfolding liesIn
   inside h =
       let a : s ≤ length p = omega arith in
@@ -116,7 +116,7 @@ pub record Lies (p : List ℕ) (start : ℕ) (b : List ℕ) : Type 0 where
   pub part : take (length b) (drop start p) ≡ b
   pub within : start + length b ≤ length p
 
-pub lies : (p : List ℕ) (head gap : ℕ) (fs : List Frame) (k : ℕ) → Laid p head gap fs → k < length fs → Lies p (head + taken gap (take k fs) + gap) (frameAt fs k .body)
+lies : (p : List ℕ) (head gap : ℕ) (fs : List Frame) (k : ℕ) → Laid p head gap fs → k < length fs → Lies p (head + taken gap (take k fs) + gap) (frameAt fs k .body)
 lies p head gap [] k h q = absurd (omega arith)
 lies p head gap (f ∷ fs) zero h q =
     let e : head + 0 + gap ≡ head + gap = omega arith in

@@ -1,6 +1,6 @@
 // Frames (document 01, "Frames"), refusals by number ("Answers by number"), the agreed form and where a frame lies ("Payloads").
 ghost use mathlib.Core.Path.{_≡_};
-ghost use Prim.Native.Nat.{_%_, _^_};
+ghost use Prim.Native.Nat.{_%_};
 ghost use Rattle.frame.specs.Table.{evrc, rowOf, rowOfSize, size, lowBits, sendable};
 ghost use Rattle.frame.specs.Answers.{numberOf};
 ghost use Rattle.frame.specs.Agreed.{opened, defaults, agreedForm};

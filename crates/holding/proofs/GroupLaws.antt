@@ -64,7 +64,7 @@ pub length-cut : (xs : List ℕ) (s n : ℕ) → s * n + s ≤ length xs → len
 length-cut xs s n h = simp (length-take, length-drop) (omega arith)
 
 -- packet n, as the code cuts it
-pub packet-cut : (h : Holding) (n : ℕ) → packetIn (take (10 * n + 10 - 10 * n) (drop (10 * n) (h .marks))) (take (220 * n + 220 - 220 * n) (drop (220 * n) (h .room))) ≡ packetOf h n
+packet-cut : (h : Holding) (n : ℕ) → packetIn (take (10 * n + 10 - 10 * n) (drop (10 * n) (h .marks))) (take (220 * n + 220 - 220 * n) (drop (220 * n) (h .room))) ≡ packetOf h n
 unfolding packetOf
 packet-cut h n = rw (cut-is (h .marks) 10 n, cut-is (h .room) 220 n)
 
@@ -80,7 +80,7 @@ unfolding region
 length-region xs s n h = simp (length-take, length-drop) (omega arith)
 
 -- the end of a part, as the code cuts it
-pub tail-is : (xs : List ℕ) (s k z : ℕ) → z ≤ s → take (s * k + s - (s * k + z)) (drop (s * k + z) xs) ≡ drop z (region xs s k)
+tail-is : (xs : List ℕ) (s k z : ℕ) → z ≤ s → take (s * k + s - (s * k + z)) (drop (s * k + z) xs) ≡ drop z (region xs s k)
 unfolding region
 tail-is xs s k z h =
     let e : s * k + s - (s * k + z) ≡ s - z = omega arith in

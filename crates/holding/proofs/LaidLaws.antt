@@ -39,7 +39,7 @@ unfolding filled
 length-filled n x xs h = simp (length-append, length-replicate) (omega arith)
 
 -- more is written behind what is there
-pub over-filled : (n x : ℕ) (xs ys : List ℕ) → length xs + length ys ≤ n → over (filled n x xs) (length xs) ys ≡ filled n x (xs ++ ys)
+over-filled : (n x : ℕ) (xs ys : List ℕ) → length xs + length ys ≤ n → over (filled n x xs) (length xs) ys ≡ filled n x (xs ++ ys)
 unfolding over filled
 over-filled n x xs ys h =
     let m = n - length xs in
@@ -154,7 +154,7 @@ module _ (v : Vocoder) (f : Form) (p : List ℕ) where
       go (refused r) e = omega arith
       go (packet l n d fs) e = read-is v s f p l n d fs e .few
 
-  pub read-listed : T (single v v) → AllListed v (framesRead (readAs v f p))
+  read-listed : T (single v v) → AllListed v (framesRead (readAs v f p))
   unfolding framesRead
   read-listed s = go (readAs v f p) refl
     where

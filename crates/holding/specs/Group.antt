@@ -1,13 +1,13 @@
 -- Document 01, "Groups": a holding is one group as far as heard, over any frame table.
 -- Frame k of packet n has its type at marks 10 n + k and its body in the 22 octets from 220 n + 22 k on: a packet is one region.
-use Prim.Native.Nat.{ℕ, zero, suc, _+_, _*_}
+use Prim.Native.Nat.{ℕ, zero, suc, _*_}
 use mathlib.Core.Bool.{Bool, true, false, not, cond, _&&_, _||_}
 use mathlib.Core.Path.{_≡_}
 use mathlib.Core.List.{List}
 use lib.ListN.{length, take, drop, getD, set, replicate}
 use lib.Dec.{eqb, leb, ltb}
 use Rattle.octets.specs.Octets.{over, sameOctets, allZero, anySet}
-use Rattle.frame.specs.Table.{Vocoder, Frame, known, size, erasure}
+use Rattle.frame.specs.Table.{Vocoder, known, size, erasure}
 use Rattle.holding.specs.declared.Holding.{Holding}
 use Rattle.holding.specs.declared.Packet.{Packet}
 

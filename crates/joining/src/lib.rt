@@ -1,4 +1,4 @@
-// Joining two holdings (document 01, "Joining two holdings").
+// Joining two holdings (document 01, "Session").
 use frame::Refusal;
 use holding::Answer;
 use holding::Holding;

@@ -44,7 +44,7 @@ abbrev pub mix : Cell → Cell → Cell
 mix x y = cond (y .0) y x
 
 -- n and m are the same or one is less
-pub before-or-after : (m n : ℕ) → (m ≡ n → ⊥) → (m < n) ⊎ (n < m)
+before-or-after : (m n : ℕ) → (m ≡ n → ⊥) → (m < n) ⊎ (n < m)
 before-or-after m n h = go (ltb m n) refl
   where
     go : (t : Bool) → ltb m n ≡ t → (m < n) ⊎ (n < m)
@@ -53,11 +53,11 @@ before-or-after m n h = go (ltb m n) refl
 
 -- parts of any stride: packet n's region replaced, any other region as it was
 module _ (xs : List ℕ) (s n : ℕ) (p : List ℕ) (e : length p ≡ s) (fits : s * n + s ≤ length xs) where
-  pub region-here : region (over xs (s * n) p) s n ≡ p
+  region-here : region (over xs (s * n) p) s n ≡ p
   unfolding region
   region-here = over-same xs (s * n) p (omega arith) s e
 
-  pub region-other : (m : ℕ) → (m ≡ n → ⊥) → region (over xs (s * n) p) s m ≡ region xs s m
+  region-other : (m : ℕ) → (m ≡ n → ⊥) → region (over xs (s * n) p) s m ≡ region xs s m
   unfolding region
   region-other m d =
       ⊎-elim (λ (q : m < n). over-before xs (s * n) p (omega arith) (s * m) s (omega (arith, next m n q)))

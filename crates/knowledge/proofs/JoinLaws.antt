@@ -29,7 +29,7 @@ pub record Fails (f : ℕ → Bool) (n : ℕ) : Type 0 where
   pub below : at < n
   pub fails : f at ≡ false
 
-pub all-witness : (f : ℕ → Bool) (n : ℕ) → allBelow f n ≡ false → Fails f n
+all-witness : (f : ℕ → Bool) (n : ℕ) → allBelow f n ≡ false → Fails f n
 unfolding allBelow
 all-witness f zero e = apart (cc)
 all-witness f (suc n) e = go (f n) refl e (λ h. all-witness f n h)
@@ -45,7 +45,7 @@ cellRight v l b n x = packetRight v l b n (x .0) (x .1)
 pub box-sound : (v : Vocoder) (h : Holding) → Box v h → Sound v h
 box-sound v h x = sound-has v h (holds-sound v h (x .some) .0)
 
-pub box-cell : (v : Vocoder) (h : Holding) → Box v h → (n : ℕ) → n < 8 → cellRight v (h .l) (h .b) n (cell h n) ≡ true
+box-cell : (v : Vocoder) (h : Holding) → Box v h → (n : ℕ) → n < 8 → cellRight v (h .l) (h .b) n (cell h n) ≡ true
 unfolding cell rightAt
 box-cell v h x n k = all-at (rightAt v h) 8 n (box-sound v h x .packets) k
 
@@ -93,10 +93,10 @@ module _ (v : Vocoder) (a b : Holding) (x : Box v a) (y : Box v b) (g : SameHead
   either-shaped : Shaped (either a b)
   either-shaped = take-shaped a b (x .shaped) (y .shaped) 8 (omega arith)
 
-  pub either-cell : (n : ℕ) → n < 8 → cell (either a b) n ≡ mix (cell a n) (cell b n)
+  either-cell : (n : ℕ) → n < 8 → cell (either a b) n ≡ mix (cell a n) (cell b n)
   either-cell n k = take-cell a b (x .shaped) (y .shaped) n k
 
-  pub either-head : SameHead (either a b) a
+  either-head : SameHead (either a b) a
   either-head = take-head a b 8
 
   either-right : (n : ℕ) → n < 8 → rightAt v (either a b) n ≡ true
@@ -128,7 +128,7 @@ module _ (v : Vocoder) (a b : Holding) (x : Box v a) (y : Box v b) (g : SameHead
       (λ n k e. ap (λ (c : Cell). c .0) (either-cell n (omega (arith, x .shaped .long-held))) ∙ mix-on (cell a n) (cell b n) e)
       (holds-sound v a (x .some) .1)
 
-  pub either-box : Box v (either a b)
+  either-box : Box v (either a b)
   unfolding holds
   either-box = record { shaped = either-shaped; some = rw (either-sound, either-any) }
 

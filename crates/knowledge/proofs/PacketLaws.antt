@@ -96,7 +96,7 @@ module _ (fs : List Frame) (few : length fs ≤ 10) (s : Short fs) where
   unfolding laid markAt
   laid-mark k h = filled-at 10 erasure (typesOf fs) k (omega (arith, length-types fs)) ∙ types-at fs k
 
-  pub laid-mark-past : (k : ℕ) → length fs ≤ k → k < 10 → markAt (laid fs) k ≡ erasure
+  laid-mark-past : (k : ℕ) → length fs ≤ k → k < 10 → markAt (laid fs) k ≡ erasure
   unfolding laid markAt
   laid-mark-past k h l = filled-past 10 erasure (typesOf fs) k (omega (arith, length-types fs)) l
 
@@ -104,7 +104,7 @@ module _ (fs : List Frame) (few : length fs ≤ 10) (s : Short fs) where
   unfolding laid region filled
   laid-room k h = region-rooms fs (replicate (220 - length (rooms fs)) 0) k s h
 
-  pub laid-room-past : (k : ℕ) → length fs ≤ k → k < 10 → region (laid fs .room) 22 k ≡ replicate 22 0
+  laid-room-past : (k : ℕ) → length fs ≤ k → k < 10 → region (laid fs .room) 22 k ≡ replicate 22 0
   unfolding laid region
   laid-room-past k h l =
       let rs = filled 220 0 (rooms fs) in

@@ -41,7 +41,7 @@ module _ (v : Vocoder) (w : T (within 22 v)) (fs : List Frame) (few : length fs 
       let b : take (size v (f .type)) (filled 22 0 (f .body)) ≡ f .body = take-at (f .body) _ (size v (f .type)) (listed-at v fs k a h .octets) in
       rw (m, r) (ap (λ (x : List ℕ). record { type = f .type; body = x }) b)
 
-  pub laid-frames : upTo (frameOf v (laid fs)) (length fs) ≡ fs
+  laid-frames : upTo (frameOf v (laid fs)) (length fs) ≡ fs
   laid-frames = upTo-same (frameOf v (laid fs)) (frameAt fs) (length fs) laid-frame ∙ upTo-all fs
 
 -- ---- a holding that keeps the rule, a packet held or none

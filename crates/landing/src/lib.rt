@@ -1,4 +1,4 @@
-// The calls for a host in C (include/landing_voice.h): numbers and byte slices in, a refusal's number or 0 out.
+// The calls for a host in C (include/landing_voice.h): numbers and byte slices in, 0 or a refusal's number out.
 use capture::Outcome;
 use frame::Form;
 use frame::Limits;
@@ -12,7 +12,7 @@ use session::Taken;
 ghost use mathlib.Core.Path.{_≡_};
 ghost use Rattle.frame.specs.Table.{evrc};
 ghost use Rattle.frame.specs.Places.{locatedOf};
-ghost use Rattle.frame.specs.Outputs.{Writes};
+ghost use Rattle.frame.specs.Outputs.{Writes, writtenOf};
 ghost use Rattle.payload.specs.Shown.{contentsOf};
 ghost use Rattle.recording.specs.Recording.{evrcOpening, recorded, recordingMade};
 ghost use Rattle.recording.specs.Shown.{countedOf, givenIn};
@@ -38,7 +38,6 @@ ghost use Rattle.landing.specs.Host.{
   openNamed,
   openedNamed,
 };
-ghost use Rattle.frame.specs.Outputs.{writtenOf};
 ghost use Rattle.lending.specs.Calls.{offerAnswer, offerOctets, pourOf, pourOctets, copyAnswer, copyOctets, endAnswer, endOctets, joinAnswer, joinOctets, pourHeld};
 
 // The agreed form that a host names by a number and two maxima, or the refusal.
@@ -276,7 +275,7 @@ fn tell_recorded(outcome: Outcome, written: &mut usize) -> u8
     }
 }
 
-// Turns a capture into a recording.
+// Turns a capture into a recording; 255 for a bad capture.
 #[no_mangle]
 pub extern "C" fn lv_capture_record(capture: &[u8], out: &mut [u8], written: &mut usize) -> u8
     ensures { λ r. ⌜ writeTold r (now (written .exit)) (now (out .exit)) ≡ recordAfter evrc evrcOpening (now (capture .entry)) (now (written .entry)) (now (out .entry)) ⌝ }

@@ -26,16 +26,10 @@ use Rattle.lending.specs.Laid.{flagOctet, isFlag, isSet, numberOctets, f
 use Rattle.lending.proofs.Pieces.{A, B, C, D, F, M, O, G, S, P, Q, L, length-ab, length-abc, length-numbers, length-f, length-fm, length-holding, length-og, length-ogs, length-ogsp, length-ogspq, length-ogspql, length-head}
 
 -- ---- one piece more behind what was laid out: both are laid out together
-pub lay-more : (d e f : List ℕ) (at n : ℕ) (xs ys : List ℕ) → at ≤ length d → e ≡ over d at xs → n ≡ at + length xs → f ≡ over e n ys → f ≡ over d at (xs ++ ys)
+lay-more : (d e f : List ℕ) (at n : ℕ) (xs ys : List ℕ) → at ≤ length d → e ≡ over d at xs → n ≡ at + length xs → f ≡ over e n ys → f ≡ over d at (xs ++ ys)
 lay-more d e f at n xs ys h p q r = r ∙ ap (λ (i : ℕ). over e i ys) q ∙ ap (λ (l : List ℕ). over l (at + length xs) ys) p ∙ over-append d at xs ys h
 
 -- ---- flags
-pub flag-set : (b : Bool) → b ≡ true → 1 ≡ flagOctet b
-flag-set b e = rw e
-
-pub flag-clear : (b : Bool) → b ≡ false → 0 ≡ flagOctet b
-flag-clear b e = rw e
-
 pub flag-wrong : (o : List ℕ) (at i : ℕ) → i < 8 → 1 < getD o (at + i) 0 → false ≡ flagsAt o at
 unfolding flagsAt
 flag-wrong o at i h k = sym (all-fails (λ n. isFlag (getD o (at + n) 0)) 8 i h (lt-leb _ _ k))

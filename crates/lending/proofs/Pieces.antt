@@ -53,7 +53,7 @@ module _ (h : Holding) where
     pub length-fm : length (F ++ M) ≡ 88
     length-fm = length-append F M ∙ ap₂ _+_ length-f length-m
 
-    pub length-frames : length (frameOctets h) ≡ 1848
+    length-frames : length (frameOctets h) ≡ 1848
     unfolding frameOctets
     length-frames = length-append (F ++ M) (h .room) ∙ ap₂ _+_ length-fm (x .long-room)
 

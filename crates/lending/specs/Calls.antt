@@ -17,7 +17,6 @@ use Rattle.holding.specs.declared.Answer.the-variants as answer
 use Rattle.joining.specs.Joining.{joinOf}
 use Rattle.pouring.specs.Pouring.{poured}
 use Rattle.session.specs.Session.{never, opening, offered, pourMade, ended, copied}
-use Rattle.session.specs.declared.Session.{Session}
 use Rattle.session.specs.declared.Taken.{Taken}
 use Rattle.session.specs.declared.Taken.the-variants as taken
 use Rattle.lending.specs.Laid.{holdingIn, holdingLaid, sessionIn, sessionLaid}

@@ -9,7 +9,7 @@ use holding::Holding;
 use session::Session;
 use session::Taken;
 ghost use mathlib.Core.Path.{_≡_};
-ghost use mathlib.Core.Bool.{true, _||_};
+ghost use mathlib.Core.Bool.{true};
 ghost use mathlib.Core.List.{[], _∷_, map};
 ghost use Prim.Native.Nat.{_+_, _≤_};
 ghost use lib.ListN.{length, take, drop};
@@ -17,7 +17,7 @@ ghost use Rattle.octets.specs.Octets.{over, shifted};
 ghost use Rattle.frame.specs.Table.{evrc};
 ghost use Rattle.frame.specs.Outputs.{Writes};
 ghost use Rattle.lending.specs.Laid.{flagOctet, isSet, numberOctets, frameOctets, holdingOctets, holdingAt, flagsAt, holdingIn, holdingLaid, formOctets, formAt, sessionHead, sessionLaid, sessionAt, headRight, sessionIn};
-ghost use Rattle.lending.specs.Calls.{isShort, openAnswer, openOctets, offerAnswer, offerOctets, pourOf, pourOctets, copyAnswer, copyOctets, endAnswer, endOctets, joinAnswer, joinOctets, pourHeld};
+ghost use Rattle.lending.specs.Calls.{openAnswer, openOctets, offerAnswer, offerOctets, pourOf, pourOctets, copyAnswer, copyOctets, endAnswer, endOctets, joinAnswer, joinOctets, pourHeld};
 
 // The octets of a session, and of a holding.
 pub const OCTETS: usize = 2048;

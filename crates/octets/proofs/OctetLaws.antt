@@ -11,7 +11,7 @@ use lib.Seq.{getD-take, getD-drop, take-nil, take-at, drop-at, take-append-le, t
 use lib.Dec.{eqb}
 use borrow.Author.Tests.{eq-eqb, ne-eqb, eqb-true}
 use Rattle.octets.specs.Octets.{over, sameOctets, allZero, anySet, twoAt, fourAt, twoOctets, fourOctets}
-use Rattle.octets.proofs.Logic.{apart, both-true}
+use Rattle.octets.proofs.Logic.{apart, both-true, both-false}
 
 -- ---- sameOctets
 
@@ -37,10 +37,6 @@ same-long [] [] h = absurd (h refl)
 same-long [] (y ∷ ys) h = refl
 same-long (x ∷ xs) [] h = refl
 same-long (x ∷ xs) (y ∷ ys) h = rw (same-long xs ys (λ e. h (ap suc e))) (both-false (eqb x y))
-  where
-    both-false : (t : Bool) → t && false ≡ false
-    both-false true = refl
-    both-false false = refl
 
 -- a loop over both, at i: what is left decides; an equal pair leaves it to the rest; a pair that differs decides; at the end they are the same
 module _ (a b : List ℕ) (i : ℕ) (left : sameOctets a b ≡ sameOctets (drop i a) (drop i b)) where
@@ -159,7 +155,7 @@ drop-take (suc m) (suc n) (x ∷ xs) = drop-take m n xs ∙ ap (λ (k : ℕ). ta
 -- ---- windows
 
 -- k elements at j
-pub window : (j k : ℕ) (l : List ℕ) → take k (drop j l) ≡ drop j (take (j + k) l)
+window : (j k : ℕ) (l : List ℕ) → take k (drop j l) ≡ drop j (take (j + k) l)
 window j k l = let e : j + k - j ≡ k = omega arith in sym (drop-take j (j + k) l ∙ rw e)
 
 -- a part, as the code cuts it, `&s[j..j + k]`

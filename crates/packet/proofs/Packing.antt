@@ -16,7 +16,7 @@ use Rattle.octets.proofs.OctetLaws.{copy-more, set-over, over-append}
 use Rattle.frame.specs.Table.{Frame, typesOf}
 use Rattle.frame.specs.Places.{frameAt, noFrame, upTo}
 use Rattle.frame.proofs.PlaceLaws.{length-upTo, upTo-at, types-at, length-types}
-use Rattle.packet.specs.Packet.{placeOf, packetFrames, bodiesOf, follows, tocOf, packed}
+use Rattle.packet.specs.Packet.{placeOf, packetFrames, bodiesOf, tocOf, packed}
 
 le-split : (i j : ℕ) → i ≤ j → (i < j) ⊎ (i ≡ j)
 le-split i j h = go (ltb i j) refl
@@ -34,18 +34,18 @@ pub packet-at : (l n b : ℕ) (fs : List Frame) (k : ℕ) → k < b → frameAt 
 unfolding packetFrames
 packet-at l n b fs k h = upTo-at (λ j. frameAt fs (placeOf l n j)) b k noFrame h
 
-pub length-toc : (d : ℕ) (ts : List ℕ) → length (tocOf d ts) ≡ length ts
+length-toc : (d : ℕ) (ts : List ℕ) → length (tocOf d ts) ≡ length ts
 length-toc d [] = refl
 length-toc d (t ∷ ts) = ap suc (length-toc d ts)
 
 -- an entry that another follows, and the last
-pub toc-more : (d : ℕ) (ts : List ℕ) (k : ℕ) → k + 1 < length ts → getD (tocOf d ts) k 0 ≡ 128 + d * 64 + getD ts k 0
+toc-more : (d : ℕ) (ts : List ℕ) (k : ℕ) → k + 1 < length ts → getD (tocOf d ts) k 0 ≡ 128 + d * 64 + getD ts k 0
 toc-more d [] k h = absurd (omega arith)
 toc-more d (t ∷ []) k h = absurd (omega arith)
 toc-more d (t ∷ u ∷ ts) zero h = refl
 toc-more d (t ∷ u ∷ ts) (suc k) h = toc-more d (u ∷ ts) k (omega arith)
 
-pub toc-last : (d : ℕ) (ts : List ℕ) (k : ℕ) → k + 1 ≡ length ts → getD (tocOf d ts) k 0 ≡ d * 64 + getD ts k 0
+toc-last : (d : ℕ) (ts : List ℕ) (k : ℕ) → k + 1 ≡ length ts → getD (tocOf d ts) k 0 ≡ d * 64 + getD ts k 0
 toc-last d [] k h = absurd (omega arith)
 toc-last d (t ∷ []) zero h = ap (λ (x : ℕ). x + t) (zero-add (d * 64))
 toc-last d (t ∷ []) (suc k) h = absurd (omega arith)

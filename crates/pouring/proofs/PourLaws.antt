@@ -53,13 +53,13 @@ rows-size-grows v ms m i (suc b) h =
 
 -- ---- the entries take the octets that the sizes tell
 module _ (v : Vocoder) (w : T (within 22 v)) (ms rs : List ℕ) (long : length rs ≡ 1760) where
-  pub length-body : (n k : ℕ) → n < 8 → k < 10 → length (frameIn v ms rs n k .body) ≡ size v (getD ms (10 * n + k) 0)
+  length-body : (n k : ℕ) → n < 8 → k < 10 → length (frameIn v ms rs n k .body) ≡ size v (getD ms (10 * n + k) 0)
   unfolding frameIn
   length-body n k p q =
       let z : size v (getD ms (10 * n + k) 0) ≤ 22 = size-within 22 v (getD ms (10 * n + k) 0) w in
       simp (length-take, length-drop) (omega arith)
 
-  pub length-row : (k m : ℕ) → m ≤ 8 → k < 10 → length (entriesOf (row v ms rs k m)) ≡ rowSize v ms k m
+  length-row : (k m : ℕ) → m ≤ 8 → k < 10 → length (entriesOf (row v ms rs k m)) ≡ rowSize v ms k m
   unfolding row upTo rowSize
   length-row k zero p q = refl
   length-row k (suc m) p q =

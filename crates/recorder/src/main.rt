@@ -2,18 +2,28 @@
 // before the whole capture is judged.
 use capture::Outcome;
 use frame::Written;
+use libc::STDERR_FILENO;
 use libc::STDIN_FILENO;
 use libc::STDOUT_FILENO;
 
+// A program of this language has no status to tell by: where standard output cannot be written, a line on standard error says so.
+fn say(octets: &[u8]) {
+    let written = io::write_all(STDOUT_FILENO, octets);
+    if !written {
+        let line = *b"recorder: standard output cannot be written\n";
+        io::write_all(STDERR_FILENO, &line);
+    }
+}
+
 fn say_bad() {
     let line = *b"bad capture\n";
-    io::write_all(STDOUT_FILENO, &line);
+    say(&line);
 }
 
 // The first octets of a buffer.
 fn say_first(octets: &[u8], count: usize) {
     if count <= octets.len() {
-        io::write_all(STDOUT_FILENO, &octets[..count]);
+        say(&octets[..count]);
     }
 }
 

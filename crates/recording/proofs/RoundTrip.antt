@@ -30,7 +30,7 @@ take-cleared v (suc n) [] = refl
 take-cleared v (suc n) (x ∷ es) = ap (λ (l : List ℕ). x ∷ l) (take-cleared v n es)
 
 -- cleared entries are read as they were
-pub reads-cleared : (v : Vocoder) (ok : Frame → Bool) (n : ℕ) (es : List ℕ) → entries v ok n (cleared v n es) ≡ entries v ok n es
+reads-cleared : (v : Vocoder) (ok : Frame → Bool) (n : ℕ) (es : List ℕ) → entries v ok n (cleared v n es) ≡ entries v ok n es
 unfolding entries cleared
 reads-cleared v ok n [] = refl
 reads-cleared v ok (suc n) (x ∷ es) = reads-cleared v ok n es
@@ -38,7 +38,7 @@ reads-cleared v ok zero (e ∷ es) =
     simp (same-type e, length-cleared v (size v (typeOf e)) es, take-cleared v (size v (typeOf e)) es, reads-cleared v ok (size v (typeOf e)) es)
 
 -- the frames of entries, written as entries, are read as those frames
-pub entries-back : (v : Vocoder) (ok : Frame → Bool) (es : List ℕ) (fs : List Frame) → entries v ok 0 es ≡ frames fs → entries v ok 0 (entriesOf fs) ≡ frames fs
+entries-back : (v : Vocoder) (ok : Frame → Bool) (es : List ℕ) (fs : List Frame) → entries v ok 0 es ≡ frames fs → entries v ok 0 (entriesOf fs) ≡ frames fs
 entries-back v ok es fs e = ap (entries v ok 0) (entries-cleared v ok es fs e) ∙ reads-cleared v ok 0 es ∙ e
 
 pub read-after-write : (v : Vocoder) (o es : List ℕ) (fs : List Frame) → entriesIn v Any es ≡ frames fs → (w : List ℕ) → recordingMade v o es ≡ outputs.octets w → recorded v o w ≡ frames fs

@@ -66,7 +66,7 @@ module _ (s : Session) (a : Arrival) where
       choose s a (leb 32768 e) (refuse s EarlierGroup) (cond (ltb 100 e) (refuse s TooFarAhead) (begins s a m)) (λ _. no EarlierGroup refl)
       (λ _. choose s a (ltb 100 e) (refuse s TooFarAhead) (begins s a m) (λ _. no TooFarAhead refl) (λ f. next q p (ltb-false 100 e f) refl))
 
-  pub placed-ends : Placed s a (placed s a)
+  placed-ends : Placed s a (placed s a)
   unfolding placed noGroup inGroup
   placed-ends =
       choose s a (isNothing (s .group)) (cond (s .poured) (afterLast s a (ahead s a)) (begins s a 0)) (atDistance s a (minus 16 (a .sequence) (s .group .sequence)))

@@ -25,7 +25,7 @@ use Rattle.payload.specs.Shown.{contentsOf}
 use Rattle.payload.specs.declared.Contents.the-variants as contents
 use Rattle.payload.proofs.Readings.{read-is}
 use Rattle.holding.specs.Bases.{minus, baseSequence, baseTimestamp}
-use Rattle.holding.specs.Group.{samePackets, nothing, isNothing, heldAt, packetOf, withPacket, holds}
+use Rattle.holding.specs.Group.{samePackets, isNothing, heldAt, packetOf, withPacket, holds}
 use Rattle.holding.specs.LaidOut.{laid, framesRead}
 use Rattle.holding.specs.declared.Packet.{Packet}
 use Rattle.holding.specs.declared.Answer.the-variants as answer

@@ -9,7 +9,7 @@ use holding::Holding;
 use holding::Packet;
 use payload::Contents;
 ghost use mathlib.Core.Path.{_≡_};
-ghost use Prim.Native.Nat.{_<_, _≤_};
+ghost use Prim.Native.Nat.{_<_};
 ghost use Rattle.frame.specs.Table.{evrc};
 ghost use Rattle.frame.specs.Outputs.{Writes};
 ghost use Rattle.session.specs.Session.{vacant, never, formRight, opening, lastRight, groupRight, isOpen, refuse, accept, withGroup, sameBase, inGroup, begins, noGroup, placed, offered, pourMade, ended, afterPour, noCopy, copied};

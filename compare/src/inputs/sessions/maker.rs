@@ -31,14 +31,24 @@ struct Maker<'a> {
     steps: Vec<Step>,
 }
 
-/// A sequence of calls.
+/// A sequence of calls, most of them offers.
 pub fn seeded(rng: &mut Rng) -> Sequence {
+    made(rng, |maker| maker.some())
+}
+
+/// A sequence of calls, of which none is rare.
+pub fn evenly_seeded(rng: &mut Rng) -> Sequence {
+    made(rng, |maker| maker.some_evenly())
+}
+
+/// A sequence of calls, some at a time.
+fn made(rng: &mut Rng, some: fn(&mut Maker)) -> Sequence {
     let shelf = fresh(rng);
     let talks = [Talk::new(rng), Talk::new(rng)];
     let first = shelf.clone();
     let mut maker = Maker { rng, talks, shelf, spoilt: Vec::new(), steps: Vec::new() };
     while maker.steps.len() < LENGTH {
-        maker.some();
+        some(&mut maker);
     }
     Sequence { name: "seeded", shelf: first, steps: maker.steps }
 }
@@ -78,6 +88,19 @@ impl Maker<'_> {
             83 => self.talks[talk_of(who)] = Talk::new(self.rng),
             84..=93 => self.spoil_session(who),
             _ => self.spoil_holding(),
+        }
+    }
+
+    /// The same, half of the time by a call that is rare otherwise.
+    fn some_evenly(&mut self) {
+        let who = self.rng.between(0, SESSIONS - 1);
+        match self.rng.between(0, 11) {
+            0 | 1 => self.end(who),
+            2 => self.pour(who),
+            3 => self.copy(who),
+            4 => self.join(),
+            5 => self.pour_holding(),
+            _ => self.some(),
         }
     }
 

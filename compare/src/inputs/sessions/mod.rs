@@ -6,7 +6,7 @@ pub mod families;
 mod maker;
 pub mod spoil;
 
-pub use maker::seeded;
+pub use maker::{evenly_seeded, seeded};
 
 use crate::calls::{Agreed, WriteOut};
 use crate::paper::session::Packet;

@@ -5,11 +5,11 @@ use borrow.Author.Needs.{needs}
 use Rattle.recorder.proofs.say_first.Statement.{statement}
 use Rattle.recorder.proofs.say_first.Tie as tie
 
-slice-aggregate-write-all : tie.Need-slice-aggregate-write-all
-slice-aggregate-write-all c = sym (length-take-le _ _ (c .before .if1 .taken))
+slice-aggregate-say : tie.Need-slice-aggregate-say
+slice-aggregate-say c = sym (length-take-le _ _ (c .before .if1 .taken))
 
-write-all-requires : tie.Need-write-all-requires
-write-all-requires c κs = search needs
+say-requires : tie.Need-say-requires
+say-requires c κs = search needs
 
 returns : tie.Need-returns
 returns c = search needs
@@ -19,4 +19,4 @@ returns-2 c = search needs
 
 pub say-first-spec : {M : Type 1} → statement M
 say-first-spec =
-    tie.close (tie.spec slice-aggregate-write-all write-all-requires returns returns-2)
+    tie.close (tie.spec slice-aggregate-say say-requires returns returns-2)

@@ -15,7 +15,7 @@ use Rattle.frame.specs.declared.Lookup.{Lookup}
 use Rattle.frame.specs.declared.Lookup.the-variants.{Found, Missing}
 use Rattle.frame.specs.declared.Refusal.the-variants.{NotApplicable}
 use Rattle.frame.proofs.TableLaws.{erasure-listed}
-use Rattle.frame.proofs.PlaceLaws.{upTo-at, listed-at, length-upTo}
+use Rattle.frame.proofs.PlaceLaws.{upTo-at, every-at, every-append, every-upTo, every-so, length-upTo}
 use Rattle.payload.proofs.Readings.{IsPacket, read-is}
 use Rattle.recording.specs.Entries.{frames, allowed, entriesOf}
 use Rattle.recording.specs.Recording.{recorded}
@@ -29,7 +29,7 @@ use Rattle.pouring.specs.Pouring.{frameIn, row, rows, inTime, poured}
 use Rattle.pouring.proofs.PourLaws.{entries-append}
 use Rattle.knowledge.specs.Knowledge.{Box}
 use Rattle.knowledge.proofs.Cells.{packet-sized}
-use Rattle.knowledge.proofs.PacketLaws.{frameOf, right-listed, frame-in, erased-frame, listed-upTo}
+use Rattle.knowledge.proofs.PacketLaws.{frameOf, right-listed, frame-in, erased-frame}
 use Rattle.knowledge.proofs.JoinLaws.{box-sound, box-blank, right-held}
 use Rattle.knowledge.proofs.PutLaws.{put-box, begun-keeps}
 use Rattle.session.specs.Session.{never, fresh, vacant, isOpen, refuse, accept, withGroup, begins, arrival, offered, pourMade, ended}
@@ -41,14 +41,10 @@ use Rattle.capture.specs.Run.{Step, andThen, firstSession, offeredTo, takenOf, 
 use Rattle.claims.specs.Packets.{narrow}
 use Rattle.claims.specs.Joinings.{HasRoom}
 use Rattle.claims.specs.Captures.{GivesARecording}
-use Rattle.claims.proofs.PacketTrips.{FitOne, Fit}
+use Rattle.claims.proofs.PacketTrips.{FitOne}
 use Rattle.claims.proofs.PacketBack.{AllOk, entries-written, narrow-type}
 
 -- ---- the frames of a box are as the table has them
-listed-append : (v : Vocoder) (fs gs : List Frame) → AllListed v fs → AllListed v gs → AllListed v (fs ++ gs)
-listed-append v [] gs a b = b
-listed-append v (f ∷ fs) gs a b = (a .0, listed-append v fs gs (a .1) b)
-
 module _ (v : Vocoder) (r : HasRoom v) (h : Holding) (x : Box v h) where
   frame-listed : (n k : ℕ) → n < 8 → k < h .b → Listed v (frameIn v (h .marks) (h .room) n k)
   frame-listed n k p q = go (heldAt h n) refl
@@ -62,7 +58,7 @@ module _ (v : Vocoder) (r : HasRoom v) (h : Holding) (x : Box v h) where
       go : (b : Bool) → heldAt h n ≡ b → Listed v (frameIn v (h .marks) (h .room) n k)
       go true e =
           let a = right-listed v (r .short) (r .erasing) (h .b) (box-sound v h x .few) (packetOf h n) (packet-sized h n (x .shaped) p) (right-held v h x n p e .1) in
-          let l = listed-at v (upTo (frameOf v (packetOf h n)) (h .b)) k a (omega (arith, q, length-upTo (frameOf v (packetOf h n)) (h .b))) in
+          let l = every-at (Listed v) (upTo (frameOf v (packetOf h n)) (h .b)) k a (omega (arith, q, length-upTo (frameOf v (packetOf h n)) (h .b))) in
           rw (is, ← upTo-at (frameOf v (packetOf h n)) (h .b) k noFrame q) l
       go false e =
           let f : frameIn v (h .marks) (h .room) n k ≡ record { type = erasure; body = [] } = is ∙ ap (λ p. frameOf v p k) (box-blank v h x n p e) ∙ erased-frame v (r .erasing) k few in
@@ -74,8 +70,8 @@ module _ (v : Vocoder) (r : HasRoom v) (h : Holding) (x : Box v h) where
   unfolding rows row
   rows-listed m zero p q = tt
   rows-listed m (suc b) p q =
-      listed-append v (rows v (h .marks) (h .room) m b) (row v (h .marks) (h .room) b m) (rows-listed m b p (omega arith))
-      (listed-upTo v (λ n. frameIn v (h .marks) (h .room) n b) m (λ n i. frame-listed n b (omega arith) (omega arith)))
+      every-append (Listed v) (rows v (h .marks) (h .room) m b) (row v (h .marks) (h .room) b m) (rows-listed m b p (omega arith))
+      (every-upTo (Listed v) (λ n. frameIn v (h .marks) (h .room) n b) m (λ n i. frame-listed n b (omega arith) (omega arith)))
 
 -- ---- octets that are entries
 record IsEntries (v : Vocoder) (w : List ℕ) : Type 0 where
@@ -85,7 +81,7 @@ record IsEntries (v : Vocoder) (w : List ℕ) : Type 0 where
 
 entries-both : (v : Vocoder) (w u : List ℕ) → IsEntries v w → IsEntries v u → IsEntries v (w ++ u)
 entries-both v w u x y =
-    record { fs = x .fs ++ y .fs; listed = listed-append v (x .fs) (y .fs) (x .listed) (y .listed); is = ap₂ _++_ (x .is) (y .is) ∙ sym (entries-append (x .fs) (y .fs)) }
+    record { fs = x .fs ++ y .fs; listed = every-append (Listed v) (x .fs) (y .fs) (x .listed) (y .listed); is = ap₂ _++_ (x .is) (y .is) ∙ sym (entries-append (x .fs) (y .fs)) }
 
 entries-none : (v : Vocoder) → IsEntries v []
 entries-none v = record { fs = []; listed = tt; is = refl }
@@ -178,13 +174,12 @@ module _ (v : Vocoder) (r : HasRoom v) (u : T (single v v)) where
   first-fine (h ∷ hs) = none nothing-is
 
 -- ---- entries behind an opening are read as their frames
-fit : (v : Vocoder) → T (narrow v) → (fs : List Frame) → AllListed v fs → Fit v fs
-fit v h [] a = tt
-fit v h (f ∷ fs) a = (one (rowOf v (f .type)) refl (a .0 .type-known), fit v h fs (a .1))
+fit : (v : Vocoder) → T (narrow v) → (f : Frame) → Listed v f → FitOne v f
+fit v h f a = one (rowOf v (f .type)) refl (a .type-known)
   where
     one : (l : Lookup) → rowOf v (f .type) ≡ l → isThere l ≡ true → FitOne v f
     one Missing q e = apart (cc)
-    one (Found x) q e = record { known = a .0 .type-known; small = narrow-type v (f .type) x h q; octets = a .0 .octets }
+    one (Found x) q e = record { known = a .type-known; small = narrow-type v (f .type) x h q; octets = a .octets }
 
 any-ok : (v : Vocoder) (fs : List Frame) → AllOk (allowed v Any) fs
 unfolding allowed
@@ -198,4 +193,4 @@ gives-a-recording v r u h o c =
     let g = then-good v r u (runOf v (firstSession hs) hs) (pouring v) (run-good v r u (firstSession hs) hs (first-fine v r u hs)) (λ t x. pour-good v r u t x) in
     let x = g .entries in
     let fs = x .fs in
-    record { frames = fs; read = rw (x .is, begins-self o (entriesOf fs), drop-append-seam o (entriesOf fs)) (entries-written v (allowed v Any) fs (fit v h fs (x .listed)) (any-ok v fs)) }
+    record { frames = fs; read = rw (x .is, begins-self o (entriesOf fs), drop-append-seam o (entriesOf fs)) (entries-written v (allowed v Any) fs (every-so (Listed v) (FitOne v) (fit v h) fs (x .listed)) (any-ok v fs)) }

@@ -8,15 +8,13 @@ use lib.Dec.{eqb, leb}
 use lib.ListN.{length}
 use borrow.Author.Tests.{eq-eqb, leb-true, eqb-true, eqb-false}
 use Rattle.octets.proofs.Logic.{apart, both-true}
-use Rattle.frame.specs.Table.{Vocoder, Frame, AllListed}
+use Rattle.frame.specs.Table.{Vocoder, Frame, AllListed, Listed}
 use Rattle.frame.specs.Places.{frameAt}
 use Rattle.frame.specs.declared.Form.{Form}
 use Rattle.frame.specs.declared.Refusal.the-variants.{PacketDiffers}
-use Rattle.frame.proofs.PlaceLaws.{listed-at}
 use Rattle.payload.specs.Payload.{packet, readAs}
 use Rattle.packet.specs.Packet.{placeOf, packetFrames}
-use Rattle.packet.proofs.Numbering.{place-in}
-use Rattle.packet.proofs.Packing.{length-packet, packet-at}
+use Rattle.packet.proofs.Packing.{length-packet, packet-at, packet-every}
 use Rattle.holding.specs.Bases.{minus, baseSequence, baseTimestamp}
 use Rattle.holding.specs.Group.{isNothing, begun, heldAt, packetOf, withPacket, samePackets}
 use Rattle.holding.specs.LaidOut.{laid}
@@ -26,7 +24,7 @@ use Rattle.knowledge.specs.Knowledge.{Box, Known, heard, lost, framesHeard, kno
 use Rattle.holding.proofs.GroupLaws.{holds-sound, sound-something}
 use Rattle.knowledge.proofs.JoinLaws.{box-sound}
 use Rattle.knowledge.proofs.KnowledgeLaws.{known-held, heard-laid, heard-same}
-use Rattle.knowledge.proofs.PacketLaws.{packets-refl, listed-upTo}
+use Rattle.knowledge.proofs.PacketLaws.{packets-refl}
 use Rattle.knowledge.proofs.PutLaws.{Keeps, with-head, put-box, put-knows, put-others, begun-keeps, begun-lost}
 use Rattle.session.specs.Session.{formRight, lastRight, groupRight, isOpen, accept, refuse, withGroup, sameBase, atDistance, inGroup, begins, noGroup, placed, arrival, judged, offered, pourMade, copied}
 use Rattle.session.proofs.SessionLaws.{next-group, first-group}
@@ -52,12 +50,6 @@ time-back t n h k = omega arith
 
 no-distance : (a : ℕ) → a < 65536 → minus 16 a a ≡ 0
 no-distance a h = omega arith
-
--- ---- the frames of packet N
-packet-listed : (v : Vocoder) (l n b : ℕ) (fs : List Frame) → AllListed v fs → n ≤ l → length fs ≡ (l + 1) * b → AllListed v (packetFrames l n b fs)
-unfolding packetFrames
-packet-listed v l n b fs a h m =
-    listed-upTo v (λ k. frameAt fs (placeOf l n k)) b (λ k q. listed-at v fs (placeOf l n k) a (omega (arith, place-in l n b k h q)))
 
 -- a packet that is not known is not held
 pub known-lost : (v : Vocoder) (h : Holding) (n : ℕ) → knownOf v h n ≡ lost → heldAt h n ≡ false
@@ -124,7 +116,7 @@ module _ (v : Vocoder) (m : HasRoom v) (form : Form) (g : Sent v form) (n : ℕ)
   ours-many = length-packet (g .l) n (g .b) (g .frames)
 
   ours-listed : AllListed v ours
-  ours-listed = packet-listed v (g .l) n (g .b) (g .frames) (g .listed) le (g .many)
+  ours-listed = packet-every (Listed v) (g .l) n (g .b) (g .frames) (g .listed) le (omega (arith, g .many))
 
   base-is : baseSequence numbered n ≡ g .sequence
   base-is = base-back (g .sequence) n (g .sequence-fits) small

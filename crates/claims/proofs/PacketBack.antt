@@ -9,7 +9,7 @@ use lib.ListN.{length, take, drop, getD, length-append}
 use lib.Seq.{take-at, drop-at, take-add, take-all}
 use borrow.Author.Tests.{eq-eqb, ne-eqb, eqb-true, eqb-false, le-leb, leb-true, leb-false, le-ltb, lt-ltb, ltb-true}
 use Rattle.octets.proofs.Logic.{apart, both-true, both-hold}
-use Rattle.frame.specs.Table.{Vocoder, Frame, rowOf, rowWith, rowOfSize, known, size, lowBits, sendable, sendableAs, typesOf}
+use Rattle.frame.specs.Table.{Vocoder, Frame, rowOf, rowWith, rowOfSize, known, size, lowBits, sendable, sendableAs, typesOf, Every}
 use Rattle.frame.specs.Entry.{typeOf, dOf, more}
 use Rattle.frame.specs.Agreed.{inRange}
 use Rattle.frame.specs.Outputs.{octets, refused}
@@ -19,6 +19,7 @@ use Rattle.frame.specs.declared.Lookup.{Lookup}
 use Rattle.frame.specs.declared.Lookup.the-variants.{Found, Missing}
 use Rattle.frame.specs.declared.Form.the-variants.{HeaderFree, Interleaved}
 use Rattle.frame.specs.declared.Refusal.the-variants.{TooManyFrames, ReservedType}
+use Rattle.frame.proofs.PlaceLaws.{every-so}
 use Rattle.frame.proofs.TableLaws.{found-known, found-size, evrc-single}
 use Rattle.payload.specs.Payload.{packet, Table, table, fault, put, toc, total, cut, readAs}
 use Rattle.payload.specs.Payload as payload
@@ -112,8 +113,7 @@ again v m p l n d gs e o h q =
 
 -- ---- frames as entries are read as those frames, under a rule that allows them
 abbrev pub AllOk : (Frame → Bool) → List Frame → Type 0
-AllOk ok [] = Unit {0}
-AllOk ok (f ∷ fs) = (ok f ≡ true) × AllOk ok fs
+AllOk ok fs = Every (λ f. ok f ≡ true) fs
 
 pub entries-written : (v : Vocoder) (ok : Frame → Bool) (fs : List Frame) → Fit v fs → AllOk ok fs → entries v ok 0 (entriesOf fs) ≡ frames fs
 unfolding entries
@@ -162,13 +162,11 @@ fit-sendable v f h e =
     record { known = found-known v (f .type) (s .r) (s .row); small = narrow-type v (f .type) (s .r) h (s .row); octets = s .long ∙ sym (found-size v (f .type) (s .r) (s .row)) }
 
 all-fit : (v : Vocoder) (fs : List Frame) → T (narrow v) → AllSendable v fs → Fit v fs
-all-fit v [] h a = tt
-all-fit v (f ∷ fs) h a = (fit-sendable v f h (a .0), all-fit v fs h (a .1))
+all-fit v fs h a = every-so _ (FitOne v) (λ f x. fit-sendable v f h x) fs a
 
 all-ok : (v : Vocoder) (fs : List Frame) → AllSendable v fs → AllOk (allowed v rule.Sendable) fs
 unfolding allowed
-all-ok v [] a = tt
-all-ok v (f ∷ fs) a = (a .0, all-ok v fs (a .1))
+all-ok v fs a = every-so _ _ (λ f x. x) fs a
 
 -- ---- write after read
 pub packet-write-after-read : PacketWriteAfterRead

@@ -1,18 +1,16 @@
 -- Read after write of packets, over any frame table. Assumes nothing.
-use Prim.Native.Nat.{ℕ, zero, suc, _+_, _*_, _-_, _≤_, _<_}
+use Prim.Native.Nat.{ℕ, _+_, _*_, _-_, _≤_, _<_}
 use mathlib.Core.Path.{_≡_, refl, sym, ap, ap₂, _∙_}
 use mathlib.Core.List.{List, [], _∷_, _++_}
 use mathlib.Core.Bool.{Bool, true, false, cond, _&&_}
-use native.Mathlib.Nat.{le-of-suc-le-suc}
 use native.Mathlib.Omega.{arith}
 use lib.Dec.{eqb, leb, ltb}
 use lib.ListN.{length, drop, getD, length-append}
 use lib.Seq.{take-at, drop-at}
 use borrow.Author.Tests.{lt-leb, le-leb, le-ltb, ltb-false, leb-true, eqb-true}
 use Rattle.octets.proofs.Logic.{apart, both-true}
-use Rattle.frame.specs.Table.{Vocoder, Frame, known, size, typesOf}
+use Rattle.frame.specs.Table.{Vocoder, Frame, known, size, typesOf, Every}
 use Rattle.frame.specs.Entry.{typeOf, dOf}
-use Rattle.frame.specs.Places.{frameAt, upTo}
 use Rattle.frame.specs.Agreed.{inRange}
 use Rattle.frame.specs.Outputs.{Made, octets, refused}
 use Rattle.frame.specs.declared.Limits.{Limits}
@@ -25,10 +23,9 @@ use Rattle.recording.specs.Entries as entry
 use Rattle.recording.specs.declared.Rule.the-variants as rule
 use Rattle.recording.proofs.EntryLaws.{entry as inverted}
 use Rattle.recording.proofs.Clearing.{read-any}
-use Rattle.packet.specs.Packet.{placeOf, packetFrames, bodiesOf, tocOf, packed, groupIn}
+use Rattle.packet.specs.Packet.{packetFrames, bodiesOf, tocOf, packed, groupIn}
 use Rattle.packet.specs.Writing.{packetMade, packetWithin, packetOfGroup}
-use Rattle.packet.proofs.Numbering.{place-in}
-use Rattle.packet.proofs.Packing.{length-packet}
+use Rattle.packet.proofs.Packing.{length-packet, packet-every}
 use Rattle.claims.specs.Packets.{PacketReadAfterWrite}
 
 -- ---- frames whose types are in the table and fit an entry, with bodies as long as the table says
@@ -38,25 +35,7 @@ pub record FitOne (v : Vocoder) (f : Frame) : Type 0 where
   pub octets : length (f .body) ≡ size v (f .type)
 
 abbrev pub Fit : Vocoder → List Frame → Type 0
-Fit v [] = Unit {0}
-Fit v (f ∷ fs) = FitOne v f × Fit v fs
-
-fit-at : (v : Vocoder) (fs : List Frame) (k : ℕ) → Fit v fs → k < length fs → FitOne v (frameAt fs k)
-fit-at v [] k w h = absurd (omega arith)
-fit-at v (f ∷ fs) zero w h = w .0
-fit-at v (f ∷ fs) (suc k) w h = fit-at v fs k (w .1) (le-of-suc-le-suc h)
-
-fit-snoc : (v : Vocoder) (fs : List Frame) (f : Frame) → Fit v fs → FitOne v f → Fit v (fs ++ (f ∷ []))
-fit-snoc v [] f w x = (x, tt)
-fit-snoc v (g ∷ fs) f w x = (w .0, fit-snoc v fs f (w .1) x)
-
-fit-packet : (v : Vocoder) (l n b : ℕ) (fs : List Frame) → Fit v fs → n ≤ l → (l + 1) * b ≤ length fs → Fit v (packetFrames l n b fs)
-unfolding packetFrames upTo
-fit-packet v l n b fs w h q = go b (omega arith)
-  where
-    go : (k : ℕ) → k ≤ b → Fit v (packetFrames l n k fs)
-    go zero j = tt
-    go (suc k) j = fit-snoc v (packetFrames l n k fs) (frameAt fs (placeOf l n k)) (go k (omega arith)) (fit-at v fs (placeOf l n k) w (omega (arith, place-in l n b k h (omega arith))))
+Fit v fs = Every (FitOne v) fs
 
 -- the frames of entries are such
 pub entries-fit : (v : Vocoder) (ok : Frame → Bool) (fs : List Frame) (p : List ℕ) (at : ℕ) → entries v ok 0 (drop at p) ≡ frames fs → Fit v fs
@@ -168,7 +147,7 @@ made-of v m l n b d es w e =
             d-bit = h;
             some = omega arith;
             few = omega arith;
-            fit = fit-packet v l n b fs (entries-fit v (allowed v rule.Sendable) fs es 0 x) q (omega arith);
+            fit = packet-every (FitOne v) l n b fs (entries-fit v (allowed v rule.Sendable) fs es 0 x) q (omega arith);
           });
           count = rw f c;
           whole = rw f (entries-fit v (allowed v rule.Sendable) fs es 0 x);

@@ -8,7 +8,8 @@ use lib.ListN.{length, drop, getD}
 use lib.Dec.{T, eqb}
 use borrow.Author.Tests.{eqb-true}
 use Rattle.octets.proofs.Logic.{apart, both-true}
-use Rattle.frame.specs.Table.{Vocoder, Frame, rowOf, size, erasure, lowBits, sendable, sendableAs, AllListed}
+use Rattle.frame.proofs.PlaceLaws.{every-so}
+use Rattle.frame.specs.Table.{Vocoder, Frame, rowOf, size, erasure, lowBits, sendable, sendableAs, AllListed, Listed}
 use Rattle.frame.specs.Places.{frameAt, upTo}
 use Rattle.frame.specs.Outputs.{octets}
 use Rattle.frame.specs.declared.Limits.{Limits}
@@ -29,12 +30,11 @@ use Rattle.packet.proofs.Packing.{length-packet}
 use Rattle.claims.specs.Packets.{HeaderFreeReadAfterWrite}
 use Rattle.claims.specs.Sending.{Admits, WriterSends, HeaderFreeWriterSends, sentOf, neverSent, WriterSendsNoErasure, EvrcNeverSendsErasures}
 use Rattle.claims.specs.Missing.{isErasure}
-use Rattle.claims.proofs.PacketTrips.{Fit, entries-fit, made-of, packed-back}
+use Rattle.claims.proofs.PacketTrips.{FitOne, Fit, entries-fit, made-of, packed-back}
 use Rattle.claims.proofs.PacketBack.{header-free-read-after-write}
 
 fit-listed : (v : Vocoder) (fs : List Frame) → Fit v fs → AllListed v fs
-fit-listed v [] w = tt
-fit-listed v (f ∷ fs) w = (record { type-known = w .0 .known; octets = w .0 .octets }, fit-listed v fs (w .1))
+fit-listed v fs w = every-so (FitOne v) (Listed v) (λ f x. record { type-known = x .known; octets = x .octets }) fs w
 
 -- a packet that was written is read back under any limits that admit it
 admitted : (v : Vocoder) (m limits : Limits) (l n b d : ℕ) (es w : List ℕ) → Admits limits l b → packetMade v (Interleaved m) l n b d es ≡ octets w → readAs v (Interleaved limits) w ≡ packet l n d (packetFrames l n b (groupIn v es))

@@ -6,7 +6,7 @@ use mathlib.Core.List.{List, [], _∷_}
 use mathlib.Core.Bool.{Bool, true, false, cond, _&&_}
 use lib.Dec.{T, eqb, ltb}
 use lib.ListN.{length, drop, getD}
-use Rattle.frame.specs.Table.{Vocoder, Frame, evrc, rowWith, sendable, single}
+use Rattle.frame.specs.Table.{Vocoder, Frame, evrc, rowWith, sendable, single, Every}
 use Rattle.frame.specs.Entry.{dOf}
 use Rattle.frame.specs.Outputs.{octets}
 use Rattle.frame.specs.declared.Limits.{Limits}
@@ -31,8 +31,7 @@ narrow (r ∷ v) = ltb (r .kind) 64 && narrow v
 
 -- "every frame is sendable"
 abbrev pub AllSendable : Vocoder → List Frame → Type 0
-AllSendable v [] = Unit {0}
-AllSendable v (f ∷ fs) = (sendable v (f .type) (f .body) ≡ true) × AllSendable v fs
+AllSendable v fs = Every (λ f. sendable v (f .type) (f .body) ≡ true) fs
 
 -- a group's frames, all sendable, in which packet N has these: "the other packets of the group may be any sendable frames"
 pub record GroupOf (v : Vocoder) (l n : ℕ) (gs fs : List Frame) : Type 0 where

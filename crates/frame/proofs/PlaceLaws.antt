@@ -14,7 +14,7 @@ use denote.Ref.{RefT, now, ptr}
 use borrow.Author.Tests.{le-leb, lt-leb, lt-ltb, le-ltb, ltb-true, ltb-false}
 use Rattle.octets.proofs.Logic.{apart}
 use Rattle.octets.proofs.OctetLaws.{part-is}
-use Rattle.frame.specs.Table.{Vocoder, Frame, typesOf, Listed, AllListed}
+use Rattle.frame.specs.Table.{Frame, typesOf, Every}
 use Rattle.frame.specs.Places.{upTo, Given, frames, refused, taken, frameAt, noFrame, locatedOf, bodyOf, startOf, sizeOf, liesIn, partOf, partStart, VeryPart}
 use Rattle.frame.specs.declared.Refusal.{Refusal}
 use Rattle.frame.specs.declared.Refusal.the-variants.{NotApplicable}
@@ -56,11 +56,24 @@ pub length-types : (fs : List Frame) → length (typesOf fs) ≡ length fs
 length-types [] = refl
 length-types (f ∷ fs) = ap suc (length-types fs)
 
--- frame k of frames that are as the table has them
-pub listed-at : (v : Vocoder) (fs : List Frame) (k : ℕ) → AllListed v fs → k < length fs → Listed v (frameAt fs k)
-listed-at v [] k w h = absurd (omega arith)
-listed-at v (f ∷ fs) zero w h = w .0
-listed-at v (f ∷ fs) (suc k) w h = listed-at v fs k (w .1) (omega arith)
+-- ---- what each of some frames is
+pub every-at : (P : Frame → Type 0) (fs : List Frame) (k : ℕ) → Every P fs → k < length fs → P (frameAt fs k)
+every-at P [] k w h = absurd (omega arith)
+every-at P (f ∷ fs) zero w h = w .0
+every-at P (f ∷ fs) (suc k) w h = every-at P fs k (w .1) (omega arith)
+
+pub every-append : (P : Frame → Type 0) (fs gs : List Frame) → Every P fs → Every P gs → Every P (fs ++ gs)
+every-append P [] gs a b = b
+every-append P (f ∷ fs) gs a b = (a .0, every-append P fs gs (a .1) b)
+
+pub every-upTo : (P : Frame → Type 0) (f : ℕ → Frame) (n : ℕ) → ((k : ℕ) → k < n → P (f k)) → Every P (upTo f n)
+unfolding upTo
+every-upTo P f zero h = tt
+every-upTo P f (suc n) h = every-append P (upTo f n) (f n ∷ []) (every-upTo P f n (λ k q. h k (omega arith))) (h n (omega arith), tt)
+
+pub every-so : (P Q : Frame → Type 0) → ((f : Frame) → P f → Q f) → (fs : List Frame) → Every P fs → Every Q fs
+every-so P Q h [] a = tt
+every-so P Q h (f ∷ fs) a = (h f (a .0), every-so P Q h fs (a .1))
 
 -- ---- a part
 not-there : (l : Located) (p : List ℕ) → liesIn l p ≡ false → ([] ≡ partOf l p) × (0 ≡ partStart l p)

@@ -85,9 +85,13 @@ pub record Listed (v : Vocoder) (f : Frame) : Type 0 where
   pub type-known : known v (f .type) ≡ true
   pub octets : length (f .body) ≡ size v (f .type)
 
+-- each of these frames is so
+abbrev pub Every : (Frame → Type 0) → List Frame → Type 0
+Every P [] = Unit {0}
+Every P (f ∷ fs) = P f × Every P fs
+
 abbrev pub AllListed : Vocoder → List Frame → Type 0
-AllListed v [] = Unit {0}
-AllListed v (f ∷ fs) = Listed v f × AllListed v fs
+AllListed v fs = Every (Listed v) fs
 
 -- the lowest bits of an octet, as a number
 abbrev pub lowBits : ℕ → ℕ → ℕ

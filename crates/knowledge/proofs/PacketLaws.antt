@@ -16,7 +16,7 @@ use Rattle.octets.proofs.OctetLaws.{same-refl, same-true, drop-take}
 use Rattle.frame.specs.Table.{Vocoder, Frame, known, size, within, erasure, erases, typesOf, Listed, AllListed}
 use Rattle.frame.specs.Places.{frameAt, noFrame, upTo}
 use Rattle.frame.proofs.TableLaws.{size-within, erasure-listed}
-use Rattle.frame.proofs.PlaceLaws.{length-upTo, upTo-at, types-at, length-types, listed-at}
+use Rattle.frame.proofs.PlaceLaws.{length-upTo, upTo-at, types-at, length-types, every-at, every-upTo}
 use Rattle.holding.specs.Group.{region, packetIn, erased, samePackets, markAt, mayStand, frameRight, framesRight, packetOf}
 use Rattle.holding.specs.LaidOut.{filled, rooms, laid}
 use Rattle.pouring.specs.Pouring.{frameIn}
@@ -145,28 +145,19 @@ laid-right v w z fs few a = all-intro (frameRight v (length fs) (laid fs)) 10 (�
     tail : (k : ℕ) → k < length fs → allZero (drop (size v (frameAt fs k .type)) (filled 22 0 (frameAt fs k .body))) ≡ true
     tail k h =
         let b = frameAt fs k .body in
-        filled-tail 22 b (size v (frameAt fs k .type)) (listed-at v fs k a h .octets)
+        filled-tail 22 b (size v (frameAt fs k .type)) (every-at (Listed v) fs k a h .octets)
 
     go : (k : ℕ) → k < 10 → (t : Bool) → ltb k (length fs) ≡ t → frameRight v (length fs) (laid fs) k ≡ true
     go k h true q =
         let i : k < length fs = ltb-true k (length fs) q in
         right-when v (length fs) k (frameAt fs k .type) (filled 22 0 (frameAt fs k .body)) (laid fs) (laid-mark fs few s k i) (laid-room fs few s k i)
-        (listed-at v fs k a i .type-known) (may-below (length fs) k (frameAt fs k .type) i) (tail k i)
+        (every-at (Listed v) fs k a i .type-known) (may-below (length fs) k (frameAt fs k .type) i) (tail k i)
     go k h false q =
         let i : length fs ≤ k = ltb-false k (length fs) q in
         right-when v (length fs) k erasure (replicate 22 0) (laid fs) (laid-mark-past fs few s k i h) (laid-room-past fs few s k i h)
         (erasure-listed v z .0) (may-past (length fs) k i) (zeros-tail (size v erasure) (replicate 22 0) (zero-list 22))
 
 -- ---- a packet that keeps the rule is its frames laid out
-listed-snoc : (v : Vocoder) (fs : List Frame) (f : Frame) → AllListed v fs → Listed v f → AllListed v (fs ++ (f ∷ []))
-listed-snoc v [] f a x = (x, tt)
-listed-snoc v (g ∷ fs) f a x = (a .0, listed-snoc v fs f (a .1) x)
-
-pub listed-upTo : (v : Vocoder) (f : ℕ → Frame) (n : ℕ) → ((k : ℕ) → k < n → Listed v (f k)) → AllListed v (upTo f n)
-unfolding upTo
-listed-upTo v f zero h = tt
-listed-upTo v f (suc n) h = listed-snoc v (upTo f n) (f n) (listed-upTo v f n (λ k q. h k (omega arith))) (h n (omega arith))
-
 unfoldable pub frameOf : Vocoder → Packet → ℕ → Frame
 frameOf v p k = record { type = markAt p k; body = take (size v (markAt p k)) (region (p .room) 22 k) }
 
@@ -224,7 +215,7 @@ module _ (v : Vocoder) (w : T (within 22 v)) (z : T (erases v)) (b : ℕ) (few :
       }
 
   pub right-listed : AllListed v ours
-  right-listed = listed-upTo v (frameOf v p) b our-listed-at
+  right-listed = every-upTo (Listed v) (frameOf v p) b our-listed-at
 
   short-ours : Short ours
   short-ours = listed-short v w ours right-listed

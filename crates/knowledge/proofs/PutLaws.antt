@@ -9,9 +9,9 @@ use lib.Seq.{take-at, ext-getD, getD-take, getD-drop}
 use lib.Dec.{T, eqb}
 use borrow.Author.Tests.{eqb-true, eqb-false, le-leb}
 use Rattle.octets.specs.Octets.{anySet}
-use Rattle.frame.specs.Table.{Vocoder, Frame, size, within, erasure, erases, AllListed}
+use Rattle.frame.specs.Table.{Vocoder, Frame, size, within, erasure, erases, Listed, AllListed}
 use Rattle.frame.specs.Places.{frameAt, noFrame, upTo}
-use Rattle.frame.proofs.PlaceLaws.{length-upTo, upTo-at, listed-at}
+use Rattle.frame.proofs.PlaceLaws.{length-upTo, upTo-at, every-at}
 use Rattle.holding.specs.Group.{Shaped, region, erased, markAt, framesRight, begun, heldAt, packetOf, withPacket, packetRight, rightAt, sound, holds}
 use Rattle.holding.specs.LaidOut.{filled, laid}
 use Rattle.holding.specs.declared.Holding.{Holding}
@@ -38,7 +38,7 @@ module _ (v : Vocoder) (w : T (within 22 v)) (fs : List Frame) (few : length fs 
       let f = frameAt fs k in
       let m : markAt (laid fs) k ≡ f .type = laid-mark fs few s k h in
       let r : region (laid fs .room) 22 k ≡ filled 22 0 (f .body) = laid-room fs few s k h in
-      let b : take (size v (f .type)) (filled 22 0 (f .body)) ≡ f .body = take-at (f .body) _ (size v (f .type)) (listed-at v fs k a h .octets) in
+      let b : take (size v (f .type)) (filled 22 0 (f .body)) ≡ f .body = take-at (f .body) _ (size v (f .type)) (every-at (Listed v) fs k a h .octets) in
       rw (m, r) (ap (λ (x : List ℕ). record { type = f .type; body = x }) b)
 
   laid-frames : upTo (frameOf v (laid fs)) (length fs) ≡ fs

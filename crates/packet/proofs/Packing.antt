@@ -13,10 +13,11 @@ use lib.Dec.{ltb}
 use borrow.Author.Tests.{ltb-true, ltb-false}
 use Rattle.octets.specs.Octets.{over}
 use Rattle.octets.proofs.OctetLaws.{copy-more, set-over, over-append}
-use Rattle.frame.specs.Table.{Frame, typesOf}
+use Rattle.frame.specs.Table.{Frame, typesOf, Every}
 use Rattle.frame.specs.Places.{frameAt, noFrame, upTo}
-use Rattle.frame.proofs.PlaceLaws.{length-upTo, upTo-at, types-at, length-types}
+use Rattle.frame.proofs.PlaceLaws.{length-upTo, upTo-at, types-at, length-types, every-at, every-upTo}
 use Rattle.packet.specs.Packet.{placeOf, packetFrames, bodiesOf, tocOf, packed}
+use Rattle.packet.proofs.Numbering.{place-in}
 
 le-split : (i j : ℕ) → i ≤ j → (i < j) ⊎ (i ≡ j)
 le-split i j h = go (ltb i j) refl
@@ -28,6 +29,12 @@ le-split i j h = go (ltb i j) refl
 pub length-packet : (l n b : ℕ) (fs : List Frame) → length (packetFrames l n b fs) ≡ b
 unfolding packetFrames
 length-packet l n b fs = length-upTo (λ k. frameAt fs (placeOf l n k)) b
+
+-- what each frame of a group is, each of packet N is
+pub packet-every : (P : Frame → Type 0) (l n b : ℕ) (fs : List Frame) → Every P fs → n ≤ l → (l + 1) * b ≤ length fs → Every P (packetFrames l n b fs)
+unfolding packetFrames
+packet-every P l n b fs a h m =
+    every-upTo P (λ k. frameAt fs (placeOf l n k)) b (λ k q. every-at P fs (placeOf l n k) a (omega (arith, place-in l n b k h q)))
 
 -- "Frame k of packet N stands at time place k x (L + 1) + N."
 pub packet-at : (l n b : ℕ) (fs : List Frame) (k : ℕ) → k < b → frameAt (packetFrames l n b fs) k ≡ frameAt fs (placeOf l n k)

@@ -39,6 +39,7 @@ unfoldable pub firstSession : List Heard → Session
 firstSession [] = never
 firstSession (h ∷ hs) = fresh (h .source) captureForm
 
+-- a packet of the capture, offered with its own numbers
 unfoldable pub offeredTo : Vocoder → Session → Heard → Offered
 offeredTo v s h = offered v s (h .source) (h .sequence) (h .timestamp) (h .payload)
 
@@ -52,6 +53,7 @@ unfoldable pub lostIn : Taken → ℕ
 lostIn (Accepted lost) = lost
 lostIn (Refused r) = 0
 
+-- the step that an offer is ("Capture program")
 unfoldable pub offering : Vocoder → Session → Heard → Step
 offering v s h = takenOf s (offeredTo v s h .session) (offeredTo v s h .answer)
 
@@ -60,9 +62,11 @@ unfoldable pub pouredOf : Session → Made → Step
 pouredOf s (octets w) = record { session = ended s; octets = w }
 pouredOf s (refused r) = record { session = s; octets = [] }
 
+-- the step that pouring is: the group's entries, and the session after it
 unfoldable pub pouring : Vocoder → Session → Step
 pouring v s = pouredOf s (pourMade v s)
 
+-- "on 12": the answer that tells of a later group
 unfoldable pub isTwelve : Taken → Bool
 isTwelve (Accepted lost) = false
 isTwelve (Refused r) = eqb (numberOf r) 12
@@ -72,6 +76,7 @@ unfoldable pub stepOf : Vocoder → Session → Heard → Step
 stepOf v s h =
     cond (isTwelve (offeredTo v s h .answer)) (andThen (pouring v s) (λ t. offering v t h)) (offering v s h)
 
+-- all packets of the capture, one after the other
 unfoldable pub runOf : Vocoder → Session → List Heard → Step
 runOf v s [] = record { session = s; octets = [] }
 runOf v s (h ∷ hs) = andThen (stepOf v s h) (λ t. runOf v t hs)
@@ -105,5 +110,6 @@ pub record Does (step : Step) (at : ℕ) (before : List ℕ) (r : Run) (after : 
 unfoldable pub recorded : Vocoder → List ℕ → List ℕ → List ℕ → Outcome
 recorded v opening c out = cond (good c) (outcome.Recorded (writtenOf (octets (recordingOf v opening c)) out)) outcome.BadCapture
 
+-- the lent output after it: a bad capture and 15 leave it as it was
 unfoldable pub outputOf : Vocoder → List ℕ → List ℕ → List ℕ → List ℕ
 outputOf v opening c out = cond (good c) (outAfter (octets (recordingOf v opening c)) out) out

@@ -31,6 +31,7 @@ lengths c (suc n) = lengths c n + lengthAt c n
 unfoldable pub startAt : List ℕ → ℕ → ℕ
 startAt c i = 2 + 12 * countOf c + lengths c i
 
+-- packet i: "per packet source (4), sequence (2), timestamp (4), length (2)", and its payload
 unfoldable pub heardAt : List ℕ → ℕ → Heard
 heardAt c i =
     record {

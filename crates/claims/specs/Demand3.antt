@@ -73,6 +73,7 @@ abbrev pub Within : ℕ → List ℕ → Type 0
 Within l [] = Unit {0}
 Within l (n ∷ ns) = (n ≤ l) × Within l ns
 
+-- whether packet n is one of these
 abbrev pub among : ℕ → List ℕ → Bool
 among n [] = false
 among n (m ∷ ms) = eqb n m || among n ms
@@ -116,6 +117,7 @@ pub record Delivered {v : Vocoder} {form : Form} (s : Session) (g : Sent v form)
   pub poured : pourMade v (offerAll s g (n ∷ ns)) ≡ octets (entriesOf (inTime v (offerAll s g (n ∷ ns) .group)))
   pub octet-count : length (entriesOf (inTime v (offerAll s g (n ∷ ns) .group))) ≡ (g .l + 1) * g .b + bodyOctets (inTime v (offerAll s g (n ∷ ns) .group))
 
+-- "Take one interleave group .. and a session ready for it .. Offer at least one of its packets, any of them, in any order, repeats allowed."
 unfoldable pub Demand3 : Type 0
 Demand3 =
     (v : Vocoder) → HasRoom v → (form : Form) (g : Sent v form) (s : Session) → Ready s g → (n : ℕ) (ns : List ℕ) → Within (g .l) (n ∷ ns) →

@@ -7,45 +7,18 @@ use denote.Triple.Clauses.{AtExit}
 use denote.Ref.{now, ptr}
 use contract.Lifetimes.{Lfts}
 use borrow.Fn.Kinds.{PK, RK, Dens, resT, endedOf, Out}
-use Rattle.landing.specs.Host.{PacketTold, packetTold, PlaceTold, placeTold, CountTold, countTold, WriteTold, writeTold}
 use Rattle.frame.specs.declared.Written.{Written}
+use Rattle.holding.specs.declared.Answer.{Answer}
 use Rattle.session.specs.declared.Session.{Session}
+use Rattle.session.specs.declared.Taken.{Taken}
+use Rattle.capture.specs.declared.Outcome.{Outcome}
+use Rattle.landing.specs.Host.{PacketTold, packetTold, PlaceTold, placeTold, CountTold, countTold, WriteTold, writeTold}
 use Rattle.octets.proofs.copy_shifted.Kinds as octets-copy-shifted-kinds
 use Rattle.octets.proofs.copy_shifted.Reads as octets-copy-shifted
 use Rattle.octets.proofs.put_two.Kinds as octets-put-two-kinds
 use Rattle.octets.proofs.put_two.Reads as octets-put-two
 use Rattle.octets.proofs.put_four.Kinds as octets-put-four-kinds
 use Rattle.octets.proofs.put_four.Reads as octets-put-four
-use Rattle.lending.proofs.open.Kinds as lending-open-kinds
-use Rattle.lending.proofs.open.Reads as lending-open
-use Rattle.lending.proofs.offer.Kinds as lending-offer-kinds
-use Rattle.lending.proofs.offer.Reads as lending-offer
-use Rattle.lending.proofs.pour.Kinds as lending-pour-kinds
-use Rattle.lending.proofs.pour.Reads as lending-pour
-use Rattle.lending.proofs.copy_out.Kinds as lending-copy-out-kinds
-use Rattle.lending.proofs.copy_out.Reads as lending-copy-out
-use Rattle.lending.proofs.end.Kinds as lending-end-kinds
-use Rattle.lending.proofs.end.Reads as lending-end
-use Rattle.lending.proofs.join.Kinds as lending-join-kinds
-use Rattle.lending.proofs.join.Reads as lending-join
-use Rattle.lending.proofs.pour_holding.Kinds as lending-pour-holding-kinds
-use Rattle.lending.proofs.pour_holding.Reads as lending-pour-holding
-use Rattle.landing.proofs.lv_session_open.Kinds as landing-lv-session-open-kinds
-use Rattle.landing.proofs.lv_session_open.Reads as landing-lv-session-open
-use Rattle.landing.proofs.lv_session_offer.Kinds as landing-lv-session-offer-kinds
-use Rattle.landing.proofs.lv_session_offer.Reads as landing-lv-session-offer
-use Rattle.landing.proofs.lv_session_pour.Kinds as landing-lv-session-pour-kinds
-use Rattle.landing.proofs.lv_session_pour.Reads as landing-lv-session-pour
-use Rattle.landing.proofs.lv_session_copy.Kinds as landing-lv-session-copy-kinds
-use Rattle.landing.proofs.lv_session_copy.Reads as landing-lv-session-copy
-use Rattle.landing.proofs.lv_session_end.Kinds as landing-lv-session-end-kinds
-use Rattle.landing.proofs.lv_session_end.Reads as landing-lv-session-end
-use Rattle.landing.proofs.lv_holding_join.Kinds as landing-lv-holding-join-kinds
-use Rattle.landing.proofs.lv_holding_join.Reads as landing-lv-holding-join
-use Rattle.landing.proofs.lv_holding_pour.Kinds as landing-lv-holding-pour-kinds
-use Rattle.landing.proofs.lv_holding_pour.Reads as landing-lv-holding-pour
-use Rattle.holding.specs.declared.Answer.{Answer}
-use Rattle.session.specs.declared.Taken.{Taken}
 use Rattle.octets.proofs.copy.Kinds as octets-copy-kinds
 use Rattle.octets.proofs.copy.Reads as octets-copy
 use Rattle.octets.proofs.fill.Kinds as octets-fill-kinds
@@ -54,13 +27,6 @@ use Rattle.octets.proofs.two.Kinds as octets-two-kinds
 use Rattle.octets.proofs.two.Reads as octets-two
 use Rattle.octets.proofs.four.Kinds as octets-four-kinds
 use Rattle.octets.proofs.four.Reads as octets-four
-use Rattle.capture.proofs.room.Kinds as capture-room-kinds
-use Rattle.capture.proofs.room.Reads as capture-room
-use Rattle.capture.proofs.record.Kinds as capture-record-kinds
-use Rattle.capture.proofs.record.Reads as capture-record
-use Rattle.landing.proofs.lv_capture_record.Kinds as landing-lv-capture-record-kinds
-use Rattle.landing.proofs.lv_capture_record.Reads as landing-lv-capture-record
-use Rattle.capture.specs.declared.Outcome.{Outcome}
 use Rattle.octets.proofs.same.Kinds as octets-same-kinds
 use Rattle.octets.proofs.same.Reads as octets-same
 use Rattle.octets.proofs.zeros.Kinds as octets-zeros-kinds
@@ -93,10 +59,6 @@ use Rattle.payload.proofs.locate.Kinds as payload-locate-kinds
 use Rattle.payload.proofs.locate.Reads as payload-locate
 use Rattle.payload.proofs.body.Kinds as payload-body-kinds
 use Rattle.payload.proofs.body.Reads as payload-body
-use Rattle.landing.proofs.lv_payload_read.Kinds as landing-lv-payload-read-kinds
-use Rattle.landing.proofs.lv_payload_read.Reads as landing-lv-payload-read
-use Rattle.landing.proofs.lv_payload_frame.Kinds as landing-lv-payload-frame-kinds
-use Rattle.landing.proofs.lv_payload_frame.Reads as landing-lv-payload-frame
 use Rattle.recording.proofs.count.Kinds as recording-count-kinds
 use Rattle.recording.proofs.count.Reads as recording-count
 use Rattle.recording.proofs.read.Kinds as recording-read-kinds
@@ -109,22 +71,12 @@ use Rattle.recording.proofs.write_cleared.Kinds as recording-write-cleared-kind
 use Rattle.recording.proofs.write_cleared.Reads as recording-write-cleared
 use Rattle.recording.proofs.write.Kinds as recording-write-kinds
 use Rattle.recording.proofs.write.Reads as recording-write
-use Rattle.landing.proofs.lv_recording_read.Kinds as landing-lv-recording-read-kinds
-use Rattle.landing.proofs.lv_recording_read.Reads as landing-lv-recording-read
-use Rattle.landing.proofs.lv_recording_frame.Kinds as landing-lv-recording-frame-kinds
-use Rattle.landing.proofs.lv_recording_frame.Reads as landing-lv-recording-frame
-use Rattle.landing.proofs.lv_recording_write.Kinds as landing-lv-recording-write-kinds
-use Rattle.landing.proofs.lv_recording_write.Reads as landing-lv-recording-write
 use Rattle.recording.proofs.seek.Kinds as recording-seek-kinds
 use Rattle.recording.proofs.seek.Reads as recording-seek
 use Rattle.packet.proofs.write.Kinds as packet-write-kinds
 use Rattle.packet.proofs.write.Reads as packet-write
 use Rattle.packet.proofs.write_header_free.Kinds as packet-write-header-free-kinds
 use Rattle.packet.proofs.write_header_free.Reads as packet-write-header-free
-use Rattle.landing.proofs.lv_packet_write.Kinds as landing-lv-packet-write-kinds
-use Rattle.landing.proofs.lv_packet_write.Reads as landing-lv-packet-write
-use Rattle.landing.proofs.lv_packet_write_header_free.Kinds as landing-lv-packet-write-header-free-kinds
-use Rattle.landing.proofs.lv_packet_write_header_free.Reads as landing-lv-packet-write-header-free
 use Rattle.holding.proofs.base_sequence.Kinds as holding-base-sequence-kinds
 use Rattle.holding.proofs.base_sequence.Reads as holding-base-sequence
 use Rattle.holding.proofs.base_timestamp.Kinds as holding-base-timestamp-kinds
@@ -133,20 +85,6 @@ use Rattle.holding.proofs.begin.Kinds as holding-begin-kinds
 use Rattle.holding.proofs.begin.Reads as holding-begin
 use Rattle.holding.proofs.is_empty.Kinds as holding-is-empty-kinds
 use Rattle.holding.proofs.is_empty.Reads as holding-is-empty
-use Rattle.session.proofs.closed.Kinds as session-closed-kinds
-use Rattle.session.proofs.closed.Reads as session-closed
-use Rattle.session.proofs.«open».Kinds as session-open-kinds
-use Rattle.session.proofs.«open».Reads as session-open
-use Rattle.session.proofs.is_open.Kinds as session-is-open-kinds
-use Rattle.session.proofs.is_open.Reads as session-is-open
-use Rattle.session.proofs.offer.Kinds as session-offer-kinds
-use Rattle.session.proofs.offer.Reads as session-offer
-use Rattle.session.proofs.pour.Kinds as session-pour-kinds
-use Rattle.session.proofs.pour.Reads as session-pour
-use Rattle.session.proofs.copy_out.Kinds as session-copy-out-kinds
-use Rattle.session.proofs.copy_out.Reads as session-copy-out
-use Rattle.session.proofs.end.Kinds as session-end-kinds
-use Rattle.session.proofs.end.Reads as session-end
 use Rattle.holding.proofs.empty.Kinds as holding-empty-kinds
 use Rattle.holding.proofs.empty.Reads as holding-empty
 use Rattle.holding.proofs.packet_in.Kinds as holding-packet-in-kinds
@@ -167,6 +105,68 @@ use Rattle.joining.proofs.join.Kinds as joining-join-kinds
 use Rattle.joining.proofs.join.Reads as joining-join
 use Rattle.pouring.proofs.pour.Kinds as pouring-pour-kinds
 use Rattle.pouring.proofs.pour.Reads as pouring-pour
+use Rattle.session.proofs.closed.Kinds as session-closed-kinds
+use Rattle.session.proofs.closed.Reads as session-closed
+use Rattle.session.proofs.«open».Kinds as session-open-kinds
+use Rattle.session.proofs.«open».Reads as session-open
+use Rattle.session.proofs.is_open.Kinds as session-is-open-kinds
+use Rattle.session.proofs.is_open.Reads as session-is-open
+use Rattle.session.proofs.offer.Kinds as session-offer-kinds
+use Rattle.session.proofs.offer.Reads as session-offer
+use Rattle.session.proofs.pour.Kinds as session-pour-kinds
+use Rattle.session.proofs.pour.Reads as session-pour
+use Rattle.session.proofs.copy_out.Kinds as session-copy-out-kinds
+use Rattle.session.proofs.copy_out.Reads as session-copy-out
+use Rattle.session.proofs.end.Kinds as session-end-kinds
+use Rattle.session.proofs.end.Reads as session-end
+use Rattle.capture.proofs.room.Kinds as capture-room-kinds
+use Rattle.capture.proofs.room.Reads as capture-room
+use Rattle.capture.proofs.record.Kinds as capture-record-kinds
+use Rattle.capture.proofs.record.Reads as capture-record
+use Rattle.lending.proofs.open.Kinds as lending-open-kinds
+use Rattle.lending.proofs.open.Reads as lending-open
+use Rattle.lending.proofs.offer.Kinds as lending-offer-kinds
+use Rattle.lending.proofs.offer.Reads as lending-offer
+use Rattle.lending.proofs.pour.Kinds as lending-pour-kinds
+use Rattle.lending.proofs.pour.Reads as lending-pour
+use Rattle.lending.proofs.copy_out.Kinds as lending-copy-out-kinds
+use Rattle.lending.proofs.copy_out.Reads as lending-copy-out
+use Rattle.lending.proofs.end.Kinds as lending-end-kinds
+use Rattle.lending.proofs.end.Reads as lending-end
+use Rattle.lending.proofs.join.Kinds as lending-join-kinds
+use Rattle.lending.proofs.join.Reads as lending-join
+use Rattle.lending.proofs.pour_holding.Kinds as lending-pour-holding-kinds
+use Rattle.lending.proofs.pour_holding.Reads as lending-pour-holding
+use Rattle.landing.proofs.lv_session_open.Kinds as landing-lv-session-open-kinds
+use Rattle.landing.proofs.lv_session_open.Reads as landing-lv-session-open
+use Rattle.landing.proofs.lv_session_offer.Kinds as landing-lv-session-offer-kinds
+use Rattle.landing.proofs.lv_session_offer.Reads as landing-lv-session-offer
+use Rattle.landing.proofs.lv_session_pour.Kinds as landing-lv-session-pour-kinds
+use Rattle.landing.proofs.lv_session_pour.Reads as landing-lv-session-pour
+use Rattle.landing.proofs.lv_session_copy.Kinds as landing-lv-session-copy-kinds
+use Rattle.landing.proofs.lv_session_copy.Reads as landing-lv-session-copy
+use Rattle.landing.proofs.lv_session_end.Kinds as landing-lv-session-end-kinds
+use Rattle.landing.proofs.lv_session_end.Reads as landing-lv-session-end
+use Rattle.landing.proofs.lv_holding_join.Kinds as landing-lv-holding-join-kinds
+use Rattle.landing.proofs.lv_holding_join.Reads as landing-lv-holding-join
+use Rattle.landing.proofs.lv_holding_pour.Kinds as landing-lv-holding-pour-kinds
+use Rattle.landing.proofs.lv_holding_pour.Reads as landing-lv-holding-pour
+use Rattle.landing.proofs.lv_capture_record.Kinds as landing-lv-capture-record-kinds
+use Rattle.landing.proofs.lv_capture_record.Reads as landing-lv-capture-record
+use Rattle.landing.proofs.lv_payload_read.Kinds as landing-lv-payload-read-kinds
+use Rattle.landing.proofs.lv_payload_read.Reads as landing-lv-payload-read
+use Rattle.landing.proofs.lv_payload_frame.Kinds as landing-lv-payload-frame-kinds
+use Rattle.landing.proofs.lv_payload_frame.Reads as landing-lv-payload-frame
+use Rattle.landing.proofs.lv_recording_read.Kinds as landing-lv-recording-read-kinds
+use Rattle.landing.proofs.lv_recording_read.Reads as landing-lv-recording-read
+use Rattle.landing.proofs.lv_recording_frame.Kinds as landing-lv-recording-frame-kinds
+use Rattle.landing.proofs.lv_recording_frame.Reads as landing-lv-recording-frame
+use Rattle.landing.proofs.lv_recording_write.Kinds as landing-lv-recording-write-kinds
+use Rattle.landing.proofs.lv_recording_write.Reads as landing-lv-recording-write
+use Rattle.landing.proofs.lv_packet_write.Kinds as landing-lv-packet-write-kinds
+use Rattle.landing.proofs.lv_packet_write.Reads as landing-lv-packet-write
+use Rattle.landing.proofs.lv_packet_write_header_free.Kinds as landing-lv-packet-write-header-free-kinds
+use Rattle.landing.proofs.lv_packet_write_header_free.Reads as landing-lv-packet-write-header-free
 
 -- what a contract allows fixes the answer
 unfoldable pub AnswerFixed : (n : ℕ) (ps : List (PK n)) (r : RK n) → Out n ps r → Type 0
@@ -206,22 +206,15 @@ pub record Determined : Type 0 where
   pub payloadRead : AnswerFixed 1 payload-read-kinds.ps payload-read-kinds.r payload-read.Post
   pub payloadLocate : AnswerFixed 1 payload-locate-kinds.ps payload-locate-kinds.r payload-locate.Post
   pub payloadBody : OutcomeFixed 1 payload-body-kinds.ps payload-body-kinds.r payload-body.Post (List ℕ × (ℕ × ℕ)) (λ κs x s. (now x, ptr x))
-  pub lvPayloadRead : OutcomeFixed 5 landing-lv-payload-read-kinds.ps landing-lv-payload-read-kinds.r landing-lv-payload-read.Post PacketTold (λ κs x s. packetTold x (now (s .1 .1 .1 .1 .0)) (now (s .1 .1 .1 .1 .1 .0)) (now (s .1 .1 .1 .1 .1 .1 .0)) (now (s .1 .1 .1 .1 .1 .1 .1 .0)))
-  pub lvPayloadFrame : OutcomeFixed 4 landing-lv-payload-frame-kinds.ps landing-lv-payload-frame-kinds.r landing-lv-payload-frame.Post PlaceTold (λ κs x s. placeTold x (now (s .1 .1 .1 .1 .1 .0)) (now (s .1 .1 .1 .1 .1 .1 .0)) (now (s .1 .1 .1 .1 .1 .1 .1 .0)))
   pub recordingCount : AnswerFixed 1 recording-count-kinds.ps recording-count-kinds.r recording-count.Post
   pub recordingRead : AnswerFixed 1 recording-read-kinds.ps recording-read-kinds.r recording-read.Post
   pub recordingLocate : AnswerFixed 1 recording-locate-kinds.ps recording-locate-kinds.r recording-locate.Post
   pub recordingBody : OutcomeFixed 1 recording-body-kinds.ps recording-body-kinds.r recording-body.Post (List ℕ × (ℕ × ℕ)) (λ κs x s. (now x, ptr x))
   pub recordingWriteCleared : OutcomeFixed 2 recording-write-cleared-kinds.ps recording-write-cleared-kinds.r recording-write-cleared.Post (List ℕ) (λ κs x s. now (s .0))
   pub recordingWrite : OutcomeFixed 2 recording-write-kinds.ps recording-write-kinds.r recording-write.Post (Written × List ℕ) (λ κs x s. (x, now (s .1 .0)))
-  pub lvRecordingRead : OutcomeFixed 2 landing-lv-recording-read-kinds.ps landing-lv-recording-read-kinds.r landing-lv-recording-read.Post CountTold (λ κs x s. countTold x (now (s .1 .0)))
-  pub lvRecordingFrame : OutcomeFixed 4 landing-lv-recording-frame-kinds.ps landing-lv-recording-frame-kinds.r landing-lv-recording-frame.Post PlaceTold (λ κs x s. placeTold x (now (s .1 .1 .0)) (now (s .1 .1 .1 .0)) (now (s .1 .1 .1 .1 .0)))
-  pub lvRecordingWrite : OutcomeFixed 3 landing-lv-recording-write-kinds.ps landing-lv-recording-write-kinds.r landing-lv-recording-write.Post WriteTold (λ κs x s. writeTold x (now (s .1 .1 .0)) (now (s .1 .0)))
   pub recordingSeek : AnswerFixed 1 recording-seek-kinds.ps recording-seek-kinds.r recording-seek.Post
   pub packetWrite : OutcomeFixed 2 packet-write-kinds.ps packet-write-kinds.r packet-write.Post (Written × List ℕ) (λ κs x s. (x, now (s .1 .1 .1 .1 .1 .1 .0)))
   pub packetWriteHeaderFree : OutcomeFixed 2 packet-write-header-free-kinds.ps packet-write-header-free-kinds.r packet-write-header-free.Post (Written × List ℕ) (λ κs x s. (x, now (s .1 .1 .0)))
-  pub lvPacketWrite : OutcomeFixed 3 landing-lv-packet-write-kinds.ps landing-lv-packet-write-kinds.r landing-lv-packet-write.Post WriteTold (λ κs x s. writeTold x (now (s .1 .1 .1 .1 .1 .1 .1 .1 .1 .0)) (now (s .1 .1 .1 .1 .1 .1 .1 .1 .0)))
-  pub lvPacketWriteHeaderFree : OutcomeFixed 3 landing-lv-packet-write-header-free-kinds.ps landing-lv-packet-write-header-free-kinds.r landing-lv-packet-write-header-free.Post WriteTold (λ κs x s. writeTold x (now (s .1 .1 .1 .1 .1 .0)) (now (s .1 .1 .1 .1 .0)))
   pub holdingBaseSequence : AnswerFixed 0 holding-base-sequence-kinds.ps holding-base-sequence-kinds.r holding-base-sequence.Post
   pub holdingBaseTimestamp : AnswerFixed 0 holding-base-timestamp-kinds.ps holding-base-timestamp-kinds.r holding-base-timestamp.Post
   pub holdingEmpty : AnswerFixed 0 holding-empty-kinds.ps holding-empty-kinds.r holding-empty.Post
@@ -232,10 +225,10 @@ pub record Determined : Type 0 where
   pub holdingSamePacket : AnswerFixed 0 holding-same-packet-kinds.ps holding-same-packet-kinds.r holding-same-packet.Post
   pub holdingIsSound : AnswerFixed 0 holding-is-sound-kinds.ps holding-is-sound-kinds.r holding-is-sound.Post
   pub holdingHoldsPacket : AnswerFixed 0 holding-holds-packet-kinds.ps holding-holds-packet-kinds.r holding-holds-packet.Post
-  pub joiningJoin : AnswerFixed 0 joining-join-kinds.ps joining-join-kinds.r joining-join.Post
-  pub pouringPour : OutcomeFixed 1 pouring-pour-kinds.ps pouring-pour-kinds.r pouring-pour.Post (Written × List ℕ) (λ κs x s. (x, now (s .1 .0)))
   pub holdingBegin : AnswerFixed 0 holding-begin-kinds.ps holding-begin-kinds.r holding-begin.Post
   pub holdingIsEmpty : AnswerFixed 0 holding-is-empty-kinds.ps holding-is-empty-kinds.r holding-is-empty.Post
+  pub joiningJoin : AnswerFixed 0 joining-join-kinds.ps joining-join-kinds.r joining-join.Post
+  pub pouringPour : OutcomeFixed 1 pouring-pour-kinds.ps pouring-pour-kinds.r pouring-pour.Post (Written × List ℕ) (λ κs x s. (x, now (s .1 .0)))
   pub sessionClosed : AnswerFixed 0 session-closed-kinds.ps session-closed-kinds.r session-closed.Post
   pub sessionOpen : AnswerFixed 0 session-open-kinds.ps session-open-kinds.r session-open.Post
   pub sessionIsOpen : AnswerFixed 0 session-is-open-kinds.ps session-is-open-kinds.r session-is-open.Post
@@ -245,7 +238,6 @@ pub record Determined : Type 0 where
   pub sessionEnd : AnswerFixed 0 session-end-kinds.ps session-end-kinds.r session-end.Post
   pub captureRoom : AnswerFixed 0 capture-room-kinds.ps capture-room-kinds.r capture-room.Post
   pub captureRecord : OutcomeFixed 2 capture-record-kinds.ps capture-record-kinds.r capture-record.Post (Outcome × List ℕ) (λ κs x s. (x, now (s .1 .0)))
-  pub lvCaptureRecord : OutcomeFixed 3 landing-lv-capture-record-kinds.ps landing-lv-capture-record-kinds.r landing-lv-capture-record.Post WriteTold (λ κs x s. writeTold x (now (s .1 .1 .0)) (now (s .1 .0)))
   pub lendingOpen : OutcomeFixed 1 lending-open-kinds.ps lending-open-kinds.r lending-open.Post (Answer × List ℕ) (λ κs x s. (x, now (s .0)))
   pub lendingOffer : OutcomeFixed 2 lending-offer-kinds.ps lending-offer-kinds.r lending-offer.Post (Taken × List ℕ) (λ κs x s. (x, now (s .0)))
   pub lendingPour : OutcomeFixed 2 lending-pour-kinds.ps lending-pour-kinds.r lending-pour.Post (Written × List ℕ × List ℕ) (λ κs x s. (x, now (s .0), now (s .1 .0)))
@@ -253,6 +245,14 @@ pub record Determined : Type 0 where
   pub lendingEnd : OutcomeFixed 1 lending-end-kinds.ps lending-end-kinds.r lending-end.Post (Answer × List ℕ) (λ κs x s. (x, now (s .0)))
   pub lendingJoin : OutcomeFixed 3 lending-join-kinds.ps lending-join-kinds.r lending-join.Post (Answer × List ℕ) (λ κs x s. (x, now (s .1 .1 .0)))
   pub lendingPourHolding : OutcomeFixed 2 lending-pour-holding-kinds.ps lending-pour-holding-kinds.r lending-pour-holding.Post (Written × List ℕ) (λ κs x s. (x, now (s .1 .0)))
+  pub lvPayloadRead : OutcomeFixed 5 landing-lv-payload-read-kinds.ps landing-lv-payload-read-kinds.r landing-lv-payload-read.Post PacketTold (λ κs x s. packetTold x (now (s .1 .1 .1 .1 .0)) (now (s .1 .1 .1 .1 .1 .0)) (now (s .1 .1 .1 .1 .1 .1 .0)) (now (s .1 .1 .1 .1 .1 .1 .1 .0)))
+  pub lvPayloadFrame : OutcomeFixed 4 landing-lv-payload-frame-kinds.ps landing-lv-payload-frame-kinds.r landing-lv-payload-frame.Post PlaceTold (λ κs x s. placeTold x (now (s .1 .1 .1 .1 .1 .0)) (now (s .1 .1 .1 .1 .1 .1 .0)) (now (s .1 .1 .1 .1 .1 .1 .1 .0)))
+  pub lvRecordingRead : OutcomeFixed 2 landing-lv-recording-read-kinds.ps landing-lv-recording-read-kinds.r landing-lv-recording-read.Post CountTold (λ κs x s. countTold x (now (s .1 .0)))
+  pub lvRecordingFrame : OutcomeFixed 4 landing-lv-recording-frame-kinds.ps landing-lv-recording-frame-kinds.r landing-lv-recording-frame.Post PlaceTold (λ κs x s. placeTold x (now (s .1 .1 .0)) (now (s .1 .1 .1 .0)) (now (s .1 .1 .1 .1 .0)))
+  pub lvRecordingWrite : OutcomeFixed 3 landing-lv-recording-write-kinds.ps landing-lv-recording-write-kinds.r landing-lv-recording-write.Post WriteTold (λ κs x s. writeTold x (now (s .1 .1 .0)) (now (s .1 .0)))
+  pub lvPacketWrite : OutcomeFixed 3 landing-lv-packet-write-kinds.ps landing-lv-packet-write-kinds.r landing-lv-packet-write.Post WriteTold (λ κs x s. writeTold x (now (s .1 .1 .1 .1 .1 .1 .1 .1 .1 .0)) (now (s .1 .1 .1 .1 .1 .1 .1 .1 .0)))
+  pub lvPacketWriteHeaderFree : OutcomeFixed 3 landing-lv-packet-write-header-free-kinds.ps landing-lv-packet-write-header-free-kinds.r landing-lv-packet-write-header-free.Post WriteTold (λ κs x s. writeTold x (now (s .1 .1 .1 .1 .1 .0)) (now (s .1 .1 .1 .1 .0)))
+  pub lvCaptureRecord : OutcomeFixed 3 landing-lv-capture-record-kinds.ps landing-lv-capture-record-kinds.r landing-lv-capture-record.Post WriteTold (λ κs x s. writeTold x (now (s .1 .1 .0)) (now (s .1 .0)))
   pub lvSessionOpen : OutcomeFixed 1 landing-lv-session-open-kinds.ps landing-lv-session-open-kinds.r landing-lv-session-open.Post (ℕ × List ℕ) (λ κs x s. (x, now (s .1 .1 .1 .1 .0)))
   pub lvSessionOffer : OutcomeFixed 3 landing-lv-session-offer-kinds.ps landing-lv-session-offer-kinds.r landing-lv-session-offer.Post (CountTold × List ℕ) (λ κs x s. (countTold x (now (s .1 .1 .1 .1 .1 .0)), now (s .0)))
   pub lvSessionPour : OutcomeFixed 3 landing-lv-session-pour-kinds.ps landing-lv-session-pour-kinds.r landing-lv-session-pour.Post (WriteTold × List ℕ) (λ κs x s. (writeTold x (now (s .1 .1 .0)) (now (s .1 .0)), now (s .0)))

@@ -33,15 +33,18 @@ abbrev from : ℕ → ℕ → List ℕ
 from m zero = []
 from m (suc n) = m ∷ from (suc m) n
 
+-- the same of what a payload was read as
 abbrev saidOf : Form → List ℕ → Reading → Says
 saidOf f p (refused r) = number (numberOf r)
 saidOf f p (packet l n d fs) =
     holds l n (length fs) d (map (locatedOf (givenAs evrc f p)) (from 0 (length fs)))
     (map (bodyOf (givenAs evrc f p)) (from 0 (length fs)))
 
+-- what is said of a payload in a form
 abbrev pub said : Form → List ℕ → Says
 said f p = saidOf f p (readAs evrc f p)
 
+-- a row: a form, octets, and what is said of them
 pub record Row : Type 0 where
   pub form : Form
   pub octets : List ℕ
@@ -51,6 +54,7 @@ pub record Row : Type 0 where
 abbrev maximumSix : Form
 maximumSix = Interleaved (record { «max_l» = 6; «max_b» = 10 })
 
+-- P1 to P10 and P14
 abbrev pub rows : List Row
 rows =
     -- P1: L 1, N 0, B 2, bodies at 3 and 5

@@ -50,6 +50,7 @@ InventsLostFrames =
     (v : Vocoder) (form : Form) (s : Session) (g : Sent v form) (n : ℕ) (ns : List ℕ) → Delivered s g n ns →
     (k : ℕ) → offerOne s g n .answer ≡ Accepted k → (k ≡ lostBefore s (g .sequence) → ⊥) → ⊥
 
+-- the same for octet counts
 unfoldable pub InventsOctetCounts : Type 0
 InventsOctetCounts =
     (v : Vocoder) (h : Holding) (w : List ℕ) → poured v h ≡ octets w →

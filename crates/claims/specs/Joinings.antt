@@ -25,6 +25,7 @@ pub record HasRoom (v : Vocoder) : Type 0 where
   pub short : T (within 22 v)
   pub erasing : T (erases v)
 
+-- EVRC is such a table
 unfoldable pub EvrcHasRoom : Type 0
 EvrcHasRoom = HasRoom evrc
 
@@ -33,10 +34,12 @@ pub data Way : Type 0 where
   only : Holding → Way
   joining : Way → Way → Way
 
+-- the boxes of a way, in its order
 abbrev pub boxes : Way → List Holding
 boxes (only h) = h ∷ []
 boxes (joining s t) = boxes s ++ boxes t
 
+-- an outcome that is a holding
 abbrev pub done : Holding → Joined
 done h = record { answer = Done; holding = h }
 
@@ -46,6 +49,7 @@ joinAnswers v j (Refused r) k y = j
 joinAnswers v j Done k (Refused r) = k
 joinAnswers v j Done k Done = joinOf v (j .holding) (k .holding)
 
+-- what a way of joining ends in
 unfoldable pub outcome : Vocoder → Way → Joined
 outcome v (only h) = done h
 outcome v (joining s t) = joinAnswers v (outcome v s) (outcome v s .answer) (outcome v t) (outcome v t .answer)
@@ -93,6 +97,7 @@ pub record Joins (v : Vocoder) (w : Way) : Type 0 where
   pub all : Holding
   pub is : outcome v w ≡ done all
 
+-- where no two boxes differ in a packet, every way joins
 unfoldable pub ElseTheyJoin : Type 0
 ElseTheyJoin =
     (v : Vocoder) → HasRoom v → (w : Way) → OneGroup v (boxes w) →
@@ -128,5 +133,6 @@ pub record PouredInTime (v : Vocoder) (h : Holding) : Type 0 where
   pub count : length (inTime v h) ≡ (h .l + 1) * h .b
   pub places : (n k : ℕ) → n ≤ h .l → k < h .b → frameAt (inTime v h) (placeOf (h .l) n k) ≡ frameKnown (knownOf v h n) k
 
+-- every holding that holds a packet is poured so
 unfoldable pub EveryPlaceInTime : Type 0
 EveryPlaceInTime = (v : Vocoder) → HasRoom v → (h : Holding) → Box v h → PouredInTime v h

@@ -40,6 +40,7 @@ NoHoldingHoldsNothing =
 unfoldable pub HoldingReadsBack : Type 0
 HoldingReadsBack = (h : Holding) → Shaped h → AreOctets (h .marks) → (o : List ℕ) → holdingIn (over o 0 (holdingLaid h)) ≡ h
 
+-- the same for a session
 unfoldable pub SessionReadsBack : Type 0
 SessionReadsBack = (s : Session) → Shaped (s .group) → AreOctets (s .group .marks) → (o : List ℕ) → sessionIn (over o 0 (sessionLaid s)) ≡ s
 

@@ -13,6 +13,7 @@ use Rattle.session.specs.declared.Session.{Session}
 use Rattle.claims.specs.Joinings.{HasRoom}
 use Rattle.claims.specs.Demand3.{Sent, among, HoldsExactly}
 
+-- whether a frame is an erasure
 abbrev pub isErasure : Frame → Bool
 isErasure f = eqb (f .type) erasure
 
@@ -35,6 +36,7 @@ pub record Spread {v : Vocoder} {form : Form} (s : Session) (g : Sent v form) : 
   pub no-neighbours : (t : ℕ) → t + 1 < (g .l + 1) * g .b → isErasure (frameAt (inTime v (s .group)) t) ≡ true →
       isErasure (frameAt (inTime v (s .group)) (t + 1)) ≡ true → ⊥
 
+-- "If exactly one packet of two or more is missing" (the order)
 unfoldable pub OneMissingPacket : Type 0
 OneMissingPacket =
     (v : Vocoder) → HasRoom v → (form : Form) (g : Sent v form) (s : Session) (ns : List ℕ) → HoldsExactly s g ns → (x : ℕ) → OneMissing g ns x →

@@ -66,6 +66,7 @@ abbrev pub kindIs : Lookup → ℕ → Bool
 kindIs Missing k = false
 kindIs (Found r) k = eqb (r .kind) k
 
+-- every type of the table that has a body and may be sent is told by its length
 abbrev pub tells : Vocoder → Vocoder → Bool
 tells v [] = true
 tells v (r ∷ u) = cond (r .sent && ltb 0 (r .octets)) (kindIs (rowWith v (r .octets)) (r .kind)) true && tells v u
@@ -76,6 +77,7 @@ HeaderFreeReadAfterWrite =
     (v : Vocoder) → T (tells v v) → (es w : List ℕ) → headerFreeMade v HeaderFree es ≡ octets w →
     readAs v HeaderFree w ≡ packet 0 0 0 (groupIn v es)
 
+-- and back: a header-free payload that was read is written again the same
 unfoldable pub HeaderFreeWriteAfterRead : Type 0
 HeaderFreeWriteAfterRead =
     (v : Vocoder) → T (narrow v) → (p : List ℕ) (l n d : ℕ) (f : Frame) →

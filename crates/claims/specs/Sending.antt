@@ -58,6 +58,7 @@ abbrev pub sentOf : Lookup → Bool
 sentOf (Found r) = r .sent
 sentOf Missing = false
 
+-- the test of a table that its erasures are never sent
 abbrev pub neverSent : Vocoder → Bool
 neverSent v = not (sentOf (rowOf v erasure))
 
@@ -67,5 +68,6 @@ WriterSendsNoErasure =
     (v : Vocoder) → T (neverSent v) → (m : Limits) (l n b d : ℕ) (es w : List ℕ) → packetMade v (Interleaved m) l n b d es ≡ octets w →
     (i : ℕ) → i < length (groupIn v es) → isErasure (frameAt (groupIn v es) i) ≡ false
 
+-- EVRC passes it
 unfoldable pub EvrcNeverSendsErasures : Type 0
 EvrcNeverSendsErasures = T (neverSent evrc)

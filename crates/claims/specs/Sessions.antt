@@ -87,6 +87,7 @@ abbrev pub lostBefore : Session → ℕ → ℕ
 lostBefore s b =
     cond (isNothing (s .group) && s .poured) (minus 16 b (s .«last_sequence» + (s .«last_l» + 1)) * s .«last_b») 0
 
+-- "the answer reports e x B lost frames before it": no other number is ever reported
 unfoldable pub LostFramesByFormula : Type 0
 LostFramesByFormula =
     (v : Vocoder) (s : Session) (source sequence timestamp : ℕ) (p : List ℕ) (l n d : ℕ) (fs : List Frame) →

@@ -13,6 +13,7 @@ use Rattle.frame.specs.declared.Form.the-variants.{Interleaved}
 abbrev pub defaults : Limits
 defaults = record { «max_l» = 5; «max_b» = 10 }
 
+-- the interleaved form under these
 abbrev pub agreedForm : Form
 agreedForm = Interleaved defaults
 

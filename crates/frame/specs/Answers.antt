@@ -25,6 +25,7 @@ use Rattle.frame.specs.declared.Refusal.the-variants.{
   NotApplicable,
 }
 
+-- the table's first column
 abbrev pub numberOf : Refusal → ℕ
 numberOf NoOctet = 1
 numberOf IndexPastLength = 2

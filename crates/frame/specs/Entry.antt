@@ -3,9 +3,11 @@ use Prim.Native.Nat.{ℕ, _/_, _%_}
 use mathlib.Core.Bool.{Bool}
 use lib.Dec.{leb}
 
+-- an entry's type
 abbrev pub typeOf : ℕ → ℕ
 typeOf e = e % 64
 
+-- an entry's D
 abbrev pub dOf : ℕ → ℕ
 dOf e = e / 64 % 2
 

@@ -27,9 +27,11 @@ abbrev pub taken : ℕ → List Frame → ℕ
 taken gap [] = 0
 taken gap (f ∷ fs) = gap + length (f .body) + taken gap fs
 
+-- what stands where there is no frame
 abbrev pub noFrame : Frame
 noFrame = record { type = 0; body = [] }
 
+-- frame k of these frames
 abbrev pub frameAt : List Frame → ℕ → Frame
 frameAt fs k = getD fs k noFrame
 
@@ -46,10 +48,12 @@ unfoldable pub bodyOf : Given → ℕ → List ℕ
 bodyOf (refused r) k = []
 bodyOf (frames head gap fs) k = frameAt fs k .body
 
+-- where a frame's body begins
 abbrev pub startOf : Located → ℕ
 startOf (Refused r) = 0
 startOf (At t s z) = s
 
+-- and how long the body is
 abbrev pub sizeOf : Located → ℕ
 sizeOf (Refused r) = 0
 sizeOf (At t s z) = z
@@ -63,6 +67,7 @@ liesIn (At t s z) p = leb s (length p) && leb z (length p - s)
 unfoldable pub partOf : Located → List ℕ → List ℕ
 partOf l p = cond (liesIn l p) (take (sizeOf l) (drop (startOf l) p)) []
 
+-- and where in them it begins
 unfoldable pub partStart : Located → List ℕ → ℕ
 partStart l p = cond (liesIn l p) (startOf l) 0
 

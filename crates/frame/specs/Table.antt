@@ -19,6 +19,7 @@ abbrev pub typesOf : List Frame → List ℕ
 typesOf [] = []
 typesOf (f ∷ fs) = f .type ∷ typesOf fs
 
+-- a frame table: its rows ("Frames")
 abbrev pub Vocoder : Type 0
 Vocoder = List Row
 
@@ -50,10 +51,12 @@ rowWith (r ∷ v) n = cond (eqb n (r .octets)) (Found r) (rowWith v n)
 abbrev pub rowOfSize : Vocoder → ℕ → Lookup
 rowOfSize v n = cond (eqb n 0) Missing (rowWith v n)
 
+-- whether a row was found
 abbrev pub isThere : Lookup → Bool
 isThere (Found r) = true
 isThere Missing = false
 
+-- the octets of its body, 0 if there is none
 abbrev pub octetsOf : Lookup → ℕ
 octetsOf (Found r) = r .octets
 octetsOf Missing = 0
@@ -90,6 +93,7 @@ abbrev pub Every : (Frame → Type 0) → List Frame → Type 0
 Every P [] = Unit {0}
 Every P (f ∷ fs) = P f × Every P fs
 
+-- all of these are as the table has them
 abbrev pub AllListed : Vocoder → List Frame → Type 0
 AllListed v fs = Every (Listed v) fs
 

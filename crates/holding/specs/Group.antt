@@ -22,6 +22,7 @@ allBelow f (suc n) = f n && allBelow f n
 unfoldable pub region : List ℕ → ℕ → ℕ → List ℕ
 region xs s n = take s (drop (s * n) xs)
 
+-- a packet of these types and bodies
 abbrev pub packetIn : List ℕ → List ℕ → Packet
 packetIn ms rs = record { marks = ms; room = rs }
 
@@ -33,6 +34,7 @@ erased = record { marks = replicate 10 erasure; room = replicate 220 0 }
 unfoldable pub samePackets : Packet → Packet → Bool
 samePackets p q = sameOctets (p .marks) (q .marks) && sameOctets (p .room) (q .room)
 
+-- the type at place k of a packet
 unfoldable pub markAt : Packet → ℕ → ℕ
 markAt p k = getD (p .marks) k 0
 
@@ -45,6 +47,7 @@ unfoldable pub frameRight : Vocoder → ℕ → Packet → ℕ → Bool
 frameRight v b p k =
     known v (markAt p k) && mayStand b k (markAt p k) && allZero (drop (size v (markAt p k)) (region (p .room) 22 k))
 
+-- all ten places of a packet are right
 unfoldable pub framesRight : Vocoder → ℕ → Packet → Bool
 framesRight v b p = allBelow (frameRight v b p) 10
 
@@ -83,6 +86,7 @@ unfoldable pub isNothing : Holding → Bool
 isNothing h =
     eqb (h .source) 0 && (eqb (h .sequence) 0 && (eqb (h .timestamp) 0 && (eqb (h .l) 0 && (eqb (h .b) 0 && blank h))))
 
+-- whether packet n is held
 unfoldable pub heldAt : Holding → ℕ → Bool
 heldAt h n = getD (h .held) n false
 
@@ -108,6 +112,7 @@ withPacket h n p =
 unfoldable pub packetRight : Vocoder → ℕ → ℕ → ℕ → Bool → Packet → Bool
 packetRight v l b n held p = cond held (leb n l && framesRight v b p) (samePackets p erased)
 
+-- packet n of a holding keeps the rule
 unfoldable pub rightAt : Vocoder → Holding → ℕ → Bool
 rightAt v h n = packetRight v (h .l) (h .b) n (heldAt h n) (packetOf h n)
 

@@ -21,9 +21,11 @@ sameGroup a b =
 unfoldable pub meets : Bool → Packet → Bool → Packet → Bool
 meets h p h′ q = cond h (cond h′ (samePackets p q) true) true
 
+-- packet n does not differ in two holdings
 unfoldable pub agreeAt : Holding → Holding → ℕ → Bool
 agreeAt a b n = meets (heldAt a n) (packetOf a n) (heldAt b n) (packetOf b n)
 
+-- no packet does: else 14
 unfoldable pub agree : Holding → Holding → Bool
 agree a b = allBelow (agreeAt a b) 8
 

@@ -24,6 +24,7 @@ pub data Known : Type 0 where
 unfoldable pub framesHeard : Vocoder → Holding → ℕ → List Frame
 framesHeard v h n = upTo (frameIn v (h .marks) (h .room) n) (h .b)
 
+-- what a holding knows of packet n
 unfoldable pub knownOf : Vocoder → Holding → ℕ → Known
 knownOf v h n = cond (heldAt h n) (heard (framesHeard v h n)) lost
 

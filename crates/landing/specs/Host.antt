@@ -55,6 +55,7 @@ unfoldable pub packetNamed : Vocoder → Named → ℕ → ℕ → ℕ → ℕ �
 packetNamed v (Agreed f) l n b d es = packetMade v f l n b d es
 packetNamed v (Refused r) l n b d es = outputs.refused r
 
+-- the same of the header-free writer
 unfoldable pub headerFreeNamed : Vocoder → Named → List ℕ → Made
 headerFreeNamed v (Agreed f) es = headerFreeMade v f es
 headerFreeNamed v (Refused r) es = outputs.refused r
@@ -72,6 +73,7 @@ packetAfter (contents.Refused r) l₀ n₀ b₀ d₀ = packetTold (numberOf r) l
 pub data PlaceTold : Type 0 where
   placeTold : (answer type start size : ℕ) → PlaceTold
 
+-- 0 and the frame's; or the refusal's number, and the rest as it was
 unfoldable pub placeAfter : Located → ℕ → ℕ → ℕ → PlaceTold
 placeAfter (located.At t s z) t₀ s₀ z₀ = placeTold 0 t s z
 placeAfter (located.Refused r) t₀ s₀ z₀ = placeTold (numberOf r) t₀ s₀ z₀
@@ -80,10 +82,12 @@ placeAfter (located.Refused r) t₀ s₀ z₀ = placeTold (numberOf r) t₀ s₀
 pub data CountTold : Type 0 where
   countTold : (answer count : ℕ) → CountTold
 
+-- 0 and the frame count; or the refusal's number, and the count as it was
 unfoldable pub countAfter : Counted → ℕ → CountTold
 countAfter (counted.Frames n) n₀ = countTold 0 n
 countAfter (counted.Refused r) n₀ = countTold (numberOf r) n₀
 
+-- the same for what was written
 unfoldable pub writtenAfter : Written → ℕ → CountTold
 writtenAfter (written.Octets n) n₀ = countTold 0 n
 writtenAfter (written.Refused r) n₀ = countTold (numberOf r) n₀
@@ -92,9 +96,11 @@ writtenAfter (written.Refused r) n₀ = countTold (numberOf r) n₀
 pub data WriteTold : Type 0 where
   writeTold : (answer count : ℕ) (out : List ℕ) → WriteTold
 
+-- what a host sees of both
 abbrev pub withOutput : CountTold → List ℕ → WriteTold
 withOutput (countTold a n) out = writeTold a n out
 
+-- after a call that was to write this
 unfoldable pub writeAfter : Made → ℕ → List ℕ → WriteTold
 writeAfter made n₀ out = withOutput (writtenAfter (writtenOf made out) n₀) (outAfter made out)
 
@@ -103,6 +109,7 @@ unfoldable pub outcomeAfter : Outcome → ℕ → CountTold
 outcomeAfter outcome.BadCapture n₀ = countTold 255 n₀
 outcomeAfter (outcome.Recorded w) n₀ = writtenAfter w n₀
 
+-- after a capture was recorded
 unfoldable pub recordAfter : Vocoder → List ℕ → List ℕ → ℕ → List ℕ → WriteTold
 recordAfter v opening c n₀ out = withOutput (outcomeAfter (recorded v opening c out) n₀) (outputOf v opening c out)
 
@@ -121,6 +128,7 @@ unfoldable pub openNamed : Named → ℕ → List ℕ → Answer
 openNamed (Agreed f) source o = openAnswer o source f
 openNamed (Refused r) source o = cond (isShort o) (answer.Refused NoRoom) (answer.Refused r)
 
+-- the session's octets after it
 unfoldable pub openedNamed : Named → ℕ → List ℕ → List ℕ
 openedNamed (Agreed f) source o = openOctets o source f
 openedNamed (Refused r) source o = o

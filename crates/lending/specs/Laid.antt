@@ -17,20 +17,25 @@ use Rattle.session.specs.declared.Session.{Session}
 abbrev pub flagOctet : Bool → ℕ
 flagOctet b = cond b 1 0
 
+-- an octet that a flag may be
 abbrev pub isFlag : ℕ → Bool
 isFlag x = leb x 1
 
+-- and whether it says yes
 abbrev pub isSet : ℕ → Bool
 isSet x = eqb x 1
 
 -- ---- a holding, in 1,860 octets: types are laid out less 14 modulo 256, so that an erasure is 0
 
+-- the numbers of a holding: octets 0 to 11
 unfoldable pub numberOctets : Holding → List ℕ
 numberOctets h = fourOctets (h .source) ++ twoOctets (h .sequence) ++ fourOctets (h .timestamp) ++ (h .l ∷ h .b ∷ [])
 
+-- which packets are held, the types and the bodies: octets 12 to 1,859
 unfoldable pub frameOctets : Holding → List ℕ
 frameOctets h = map flagOctet (h .held) ++ map (shifted 242) (h .marks) ++ h .room
 
+-- all that says something of a holding
 unfoldable pub holdingOctets : Holding → List ℕ
 holdingOctets h = numberOctets h ++ frameOctets h
 
@@ -56,27 +61,33 @@ flagsAt o at = allBelow (λ n. isFlag (getD o (at + n) 0)) 8
 unfoldable pub holdingIn : List ℕ → Holding
 holdingIn o = cond (flagsAt o 12) (holdingAt o 0) nothing
 
+-- a holding in 2,048 octets
 unfoldable pub holdingLaid : Holding → List ℕ
 holdingLaid h = holdingOctets h ++ replicate 188 0
 
 -- ---- a session: 16 octets, and its group
 
+-- a form: its kind and its maxima
 unfoldable pub formOctets : Form → List ℕ
 formOctets HeaderFree = 0 ∷ 0 ∷ 0 ∷ []
 formOctets (Interleaved m) = 1 ∷ m .«max_l» ∷ m .«max_b» ∷ []
 
+-- the form that three octets say
 unfoldable pub formAt : List ℕ → ℕ → Form
 formAt o at =
     cond (isSet (getD o at 0)) (Interleaved (record { «max_l» = getD o (at + 1) 0; «max_b» = getD o (at + 2) 0 })) HeaderFree
 
+-- what stands before the held group: octets 0 to 15
 unfoldable pub sessionHead : Session → List ℕ
 sessionHead s =
     (flagOctet (s .«open») ∷ []) ++ formOctets (s .form) ++ fourOctets (s .source) ++ (flagOctet (s .poured) ∷ []) ++
     twoOctets (s .«last_sequence») ++ (s .«last_l» ∷ s .«last_b» ∷ []) ++ replicate 3 0
 
+-- a session in 2,048 octets
 unfoldable pub sessionLaid : Session → List ℕ
 sessionLaid s = sessionHead s ++ holdingOctets (s .group) ++ replicate 172 0
 
+-- the session that such octets say
 unfoldable pub sessionAt : List ℕ → Session
 sessionAt o =
     record {

@@ -35,6 +35,7 @@ shifted by x = (x + by) % 256
 unfoldable pub twoAt : List ℕ → ℕ → ℕ
 twoAt s at = getD s at 0 * 256 + getD s (at + 1) 0
 
+-- the big-endian number of four octets
 unfoldable pub fourAt : List ℕ → ℕ → ℕ
 fourAt s at = twoAt s at * 65536 + twoAt s (at + 2)
 
@@ -42,5 +43,6 @@ fourAt s at = twoAt s at * 65536 + twoAt s (at + 2)
 unfoldable pub twoOctets : ℕ → List ℕ
 twoOctets x = x / 256 ∷ x % 256 ∷ []
 
+-- the four octets of a number, big-endian
 unfoldable pub fourOctets : ℕ → List ℕ
 fourOctets x = twoOctets (x / 65536) ++ twoOctets (x % 65536)

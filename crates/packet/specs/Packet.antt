@@ -17,6 +17,7 @@ placeOf l n k = k * (l + 1) + n
 unfoldable pub packetFrames : ℕ → ℕ → ℕ → List Frame → List Frame
 packetFrames l n b fs = upTo (λ k. frameAt fs (placeOf l n k)) b
 
+-- "Then the bodies, in the entries' order." (Payloads)
 abbrev pub bodiesOf : List Frame → List ℕ
 bodiesOf [] = []
 bodiesOf (f ∷ fs) = f .body ++ bodiesOf fs

@@ -35,6 +35,7 @@ pub data Reading : Type 0 where
 abbrev pub lOf : ℕ → ℕ
 lOf h = h / 8 % 8
 
+-- N of octet 0
 abbrev pub nOf : ℕ → ℕ
 nOf h = h % 8
 
@@ -43,6 +44,7 @@ pub data Table : Type 0 where
   table : (types : List ℕ) (d : ℕ) (rest : List ℕ) → Table
   fault : Refusal → Table
 
+-- a table with a type before its others; a fault stays one
 abbrev pub put : ℕ → Table → Table
 put t (table ts d rest) = table (t ∷ ts) d rest
 put t (fault r) = fault r

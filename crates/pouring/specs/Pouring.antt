@@ -33,6 +33,7 @@ unfoldable pub rowSize : Vocoder → List ℕ → ℕ → ℕ → ℕ
 rowSize v ms k zero = 0
 rowSize v ms k (suc m) = rowSize v ms k m + 1 + size v (getD ms (10 * m + k) 0)
 
+-- the octets of the first b rows
 unfoldable pub rowsSize : Vocoder → List ℕ → ℕ → ℕ → ℕ
 rowsSize v ms m zero = 0
 rowsSize v ms m (suc b) = rowsSize v ms m b + rowSize v ms b m

@@ -16,6 +16,7 @@ pub data Recorded : Type 0 where
   frames : List Frame → Recorded
   refused : Refusal → Recorded
 
+-- frames with one before them; a refusal stays one
 abbrev pub put : Frame → Recorded → Recorded
 put f (frames fs) = frames (f ∷ fs)
 put f (refused r) = refused r
@@ -40,6 +41,7 @@ allowed v Any f = true
 allowed v Sendable f = sendable v (f .type) (f .body)
 allowed v HeaderFree f = ltb 0 (length (f .body)) && sendable v (f .type) (f .body)
 
+-- the frames of entries by a rule
 abbrev pub entriesIn : Vocoder → Rule → List ℕ → Recorded
 entriesIn v rule es = entries v (allowed v rule) 0 es
 

@@ -15,6 +15,7 @@ use Rattle.recording.specs.declared.Rule.the-variants.{Any}
 abbrev pub evrcOpening : List ℕ
 evrcOpening = 0x23 ∷ 0x21 ∷ 0x45 ∷ 0x56 ∷ 0x52 ∷ 0x43 ∷ 0x0A ∷ []
 
+-- whether octets begin with the opening
 unfoldable pub begins : List ℕ → List ℕ → Bool
 begins opening p = sameOctets opening (take (length opening) p)
 

@@ -10,6 +10,7 @@ use Rattle.recording.specs.Recording.{recorded}
 use Rattle.recording.specs.declared.Counted.{Counted}
 use Rattle.recording.specs.declared.Counted.the-variants as counted
 
+-- the number of frames, or the refusal
 unfoldable pub countedOf : Recorded → Counted
 countedOf (frames fs) = counted.Frames (length fs)
 countedOf (refused r) = counted.Refused r
@@ -24,5 +25,6 @@ unfoldable pub givenOf : ℕ → Recorded → Given
 givenOf head (frames fs) = places.frames head 1 fs
 givenOf head (refused r) = places.refused r
 
+-- what a recording gives, behind its opening
 unfoldable pub givenIn : Vocoder → List ℕ → List ℕ → Given
 givenIn v opening p = givenOf (length opening) (recorded v opening p)

@@ -85,12 +85,15 @@ isOpen v s = s .«open» && (formRight (s .form) && (lastRight s && groupRight v
 
 -- ---- offering
 
+-- "Every refused offer leaves the session as it was."
 unfoldable pub refuse : Session → Refusal → Offered
 refuse s r = record { answer = Refused r; session = s }
 
+-- an offer accepted, with the lost frames before it
 unfoldable pub accept : Session → ℕ → Offered
 accept s lost = record { answer = Accepted lost; session = s }
 
+-- a session with another group
 unfoldable pub withGroup : Session → Holding → Session
 withGroup s h =
     record {
@@ -121,6 +124,7 @@ atDistance s a d =
     (cond (leb d (s .group .l)) (refuse s ContradictsGroup)
     (cond (leb d 32767) (refuse s LaterGroup) (refuse s EarlierGroup)))
 
+-- "Place, with a group held .., d = new base - b modulo 65,536"
 unfoldable pub inGroup : Session → Arrival → Offered
 inGroup s a = atDistance s a (minus 16 (a .sequence) (s .group .sequence))
 
@@ -139,6 +143,7 @@ unfoldable pub noGroup : Session → Arrival → Offered
 noGroup s a =
     cond (s .poured) (afterLast s a (minus 16 (a .sequence) (s .«last_sequence» + (s .«last_l» + 1)))) (begins s a 0)
 
+-- the place of a packet that was read
 unfoldable pub placed : Session → Arrival → Offered
 placed s a = cond (isNothing (s .group)) (noGroup s a) (inGroup s a)
 
@@ -186,10 +191,12 @@ ended s =
       «last_b» = s .group .b;
     }
 
+-- "and ends the group"; a refused pouring leaves the session as it was
 unfoldable pub afterPour : Session → Written → Session
 afterPour s (written.Octets n) = ended s
 afterPour s (written.Refused r) = s
 
+-- 21, and a holding of nothing
 unfoldable pub noCopy : Copied
 noCopy = record { answer = answer.Refused NotApplicable; holding = nothing }
 

@@ -1,20 +1,31 @@
 /* The landing voice library: EVRC speech in RTP payloads, for a recorder written in C or C++.
  *
- * Every call returns a uint8_t: LV_OK (0), or the number of a refusal (enum lv_answer). Each call is total: whatever the
- * numbers and octets are, it answers or refuses. A refusal changes no out-parameter and no octet of a lent buffer, and
- * octets past an answer's end stay unchanged. Every call's promise is proved for all inputs; docs/PROMISES.md has them.
+ * Every call returns a uint8_t: LV_OK (0), or the number of a refusal (enum lv_answer). Look at each answer.
+ * Each call is total: whatever the numbers and octets are, it answers or refuses. A refusal changes no
+ * out-parameter and no octet of a lent buffer, and octets past an answer's end stay unchanged. Every call's
+ * promise is proved for all inputs; docs/PROMISES.md has them. lv_answer_text below is not one of the calls:
+ * it is plain C, and stands here whole.
  *
- * What C itself asks of a caller: no pointer is null, also where the length beside it is 0; a buffer has the octets that
- * its length says; what a call may write to (a pointer with no const) overlaps nothing else that the same call is given.
- * Calls keep nothing between them and may be made from several threads on different memory.
+ * What C itself asks of a caller, as no call can see it:
+ *   - no pointer is null, also where the length beside it is 0;
+ *   - a stated length is there: a buffer has at least the octets that its length says;
+ *   - no overlap: what a call may write to (a pointer with no const) shares no octet with anything else that
+ *     the same call is given, out-parameters among them. What is only read may overlap.
+ * Calls keep nothing between them and allocate nothing. Several threads may call at once, each on memory of
+ * its own.
  *
- * Link with -llanding (target/staticlib/liblanding.a); nothing else is needed.
+ * Link with -llanding (target/staticlib/liblanding.a); nothing else is needed. docs/C.md shows the calls at
+ * work.
  */
 #ifndef LANDING_VOICE_H
 #define LANDING_VOICE_H
 
 #include <stddef.h>
 #include <stdint.h>
+
+/* The version in words; and as a number to be compared, 10000 x major + 100 x minor + patch. */
+#define LV_VERSION "1.1.0"
+#define LV_VERSION_NUMBER 10100
 
 #ifdef __cplusplus
 extern "C" {
@@ -43,7 +54,7 @@ enum lv_answer {
     LV_WRONG_OPENING = 18,      /* a recording's opening octets are missing or wrong */
     LV_BODY_CUT = 19,           /* a recording entry's body is cut */
     LV_NOT_SAME_GROUP = 20,     /* two holdings are not of the same group */
-    LV_NOT_APPLICABLE = 21,     /* wrong form, maxima or D out of range, no such frame, nothing open or held */
+    LV_NOT_APPLICABLE = 21,     /* wrong form, maxima or D out of range, no such frame, none open or held */
     LV_BAD_CAPTURE = 255        /* not a capture, or one with octets left over */
 };
 
@@ -59,109 +70,161 @@ enum lv_default {
     LV_DEFAULT_MAX_B = 10
 };
 
-/* The EVRC frame types, and the octets of the longest body. */
+/* The EVRC frame types. */
 enum lv_type {
-    LV_BLANK = 0,   /* no octets */
-    LV_RATE_8TH = 1, /* 2 octets */
+    LV_BLANK = 0,     /* no octets */
+    LV_RATE_8TH = 1,  /* 2 octets */
     LV_RATE_HALF = 3, /* 10 octets */
-    LV_RATE_1 = 4,  /* 22 octets; when sent, the low 5 bits of the last one are zero */
-    LV_ERASURE = 14 /* no octets */
+    LV_RATE_1 = 4,    /* 22 octets; when sent, the low 5 bits of the last one are zero */
+    LV_ERASURE = 14   /* no octets */
 };
 
-enum {
-    LV_BODY_MAX = 22,
-    LV_OPENING_OCTETS = 7 /* a recording opens with 23 21 45 56 52 43 0A: "#!EVRC" and a newline */
+/* How much there is, and how much there can be. Each greatest number is reached. */
+enum lv_size {
+    LV_BODY_MAX = 22,             /* octets of the longest body */
+    LV_OPENING_OCTETS = 7,        /* a recording opens with 23 21 45 56 52 43 0A: "#!EVRC" and a newline */
+    LV_SESSION_OCTETS = 2048,     /* octets of a session */
+    LV_HOLDING_OCTETS = 2048,     /* octets of a holding */
+    LV_POURED_MAX = 1840,         /* octets of a poured group */
+    LV_LOST_MAX = 1000,           /* frames lost before a group */
+    LV_CAPTURE_MAX = 65536,       /* octets of a capture */
+    LV_CAPTURE_PACKETS_MAX = 256, /* packets of a capture */
+    LV_RECORDING_MAX = 331807     /* octets of a capture's recording */
 };
 
-/* Reads a payload in the agreed form. On LV_OK: *l and *n are the interleave length and index, *b the number of frames, and
- * *d the last entry's D bit. A header-free payload is read as l 0, n 0, b 1, d 0.
+/* An answer in a few words, for a line that a person reads; "no such answer" for a number that is none. */
+static inline const char *lv_answer_text(uint8_t answer)
+{
+    switch (answer) {
+    case LV_OK: return "accepted";
+    case LV_NO_OCTET: return "no octet";
+    case LV_INDEX_PAST_LENGTH: return "index past length";
+    case LV_LENGTH_PAST_MAXIMUM: return "length past maximum";
+    case LV_TABLE_CUT: return "table cut";
+    case LV_RESERVED_TYPE: return "reserved type";
+    case LV_TOO_MANY_FRAMES: return "too many frames";
+    case LV_BODIES_CUT: return "bodies cut";
+    case LV_OCTETS_LEFT: return "octets left";
+    case LV_HEADER_FREE_LENGTH: return "header-free length";
+    case LV_ANOTHER_SOURCE: return "another source";
+    case LV_CONTRADICTS_GROUP: return "contradicts the group";
+    case LV_LATER_GROUP: return "later group";
+    case LV_EARLIER_GROUP: return "earlier group";
+    case LV_PACKET_DIFFERS: return "packet differs";
+    case LV_NO_ROOM: return "no room";
+    case LV_TOO_FAR_AHEAD: return "too far ahead";
+    case LV_NOT_SENDABLE: return "not sendable";
+    case LV_WRONG_OPENING: return "wrong opening";
+    case LV_BODY_CUT: return "body cut";
+    case LV_NOT_SAME_GROUP: return "not the same group";
+    case LV_NOT_APPLICABLE: return "not applicable";
+    case LV_BAD_CAPTURE: return "bad capture";
+    default: return "no such answer";
+    }
+}
+
+/* Reads a payload in the agreed form. On LV_OK: *l and *n are the interleave length and index, *b the
+ * number of frames, and *d the last entry's D bit. A header-free payload is read as l 0, n 0, b 1, d 0.
  * Refuses, in this order: 21; 1, 2, 3; for each entry 4, 6, 5; then 7, 8. Header-free: 9. */
-uint8_t lv_payload_read(uint8_t form, uint8_t max_l, uint8_t max_b, const uint8_t *payload, size_t len, uint8_t *l,
-                        uint8_t *n, uint8_t *b, uint8_t *d);
+uint8_t lv_payload_read(uint8_t form, uint8_t max_l, uint8_t max_b, const uint8_t *payload, size_t len,
+                        uint8_t *l, uint8_t *n, uint8_t *b, uint8_t *d);
 
-/* Finds frame k of a payload, k from 0. On LV_OK: *type is its type, and its body is the *size octets at payload + *start;
- * an empty body has size 0 and starts where it would lie. Spare bits of a body are as they came.
+/* Finds frame k of a payload, k from 0. On LV_OK: *type is its type, and its body is the *size octets, at
+ * most LV_BODY_MAX, at payload + *start; an empty body has size 0 and starts where it would lie. Spare
+ * bits of a body are as they came.
  * Refuses as lv_payload_read does; a payload that can be read, with no frame k, answers 21. */
-uint8_t lv_payload_frame(uint8_t form, uint8_t max_l, uint8_t max_b, const uint8_t *payload, size_t len, size_t k,
-                         uint8_t *type, size_t *start, size_t *size);
+uint8_t lv_payload_frame(uint8_t form, uint8_t max_l, uint8_t max_b, const uint8_t *payload, size_t len,
+                         size_t k, uint8_t *type, size_t *start, size_t *size);
 
-/* Writes packet n of an interleave group. The entries are the group's (l + 1) x b frames in time order, as recording entries,
- * whose F and D bits are ignored; the packet holds frames k x (l + 1) + n, k from 0 to b - 1, with d in every table entry.
- * On LV_OK: *written is the number of octets written to out.
- * Refuses, in this order: 21 (form not LV_INTERLEAVED, maxima out of range, d above 1), 2, 3, 6; for each entry of the whole
- * input 5, 19, 17; then 17 if there are not (l + 1) x b entries; then 15. */
-uint8_t lv_packet_write(uint8_t form, uint8_t max_l, uint8_t max_b, uint8_t l, uint8_t n, uint8_t b, uint8_t d,
-                        const uint8_t *entries, size_t entries_len, uint8_t *out, size_t out_len, size_t *written);
+/* Writes packet n of an interleave group. The entries are the group's (l + 1) x b frames in time order, as
+ * recording entries, whose F and D bits are ignored; the packet holds frames k x (l + 1) + n, k from 0 to
+ * b - 1, with d in every table entry. On LV_OK: *written is the number of octets written to out.
+ * Refuses, in this order: 21 (form not LV_INTERLEAVED, maxima out of range, d above 1), 2, 3, 6; for each
+ * entry of the whole input 5, 19, 17; then 17 if there are not (l + 1) x b entries; then 15. */
+uint8_t lv_packet_write(uint8_t form, uint8_t max_l, uint8_t max_b, uint8_t l, uint8_t n, uint8_t b,
+                        uint8_t d, const uint8_t *entries, size_t entries_len, uint8_t *out, size_t out_len,
+                        size_t *written);
 
-/* Writes a header-free packet: the body of the one entry, and nothing else.
- * Refuses, in this order: 21 (form not LV_HEADER_FREE); for each entry 5, 19, 17, a blank too; then 17 if there is not exactly
- * one entry; then 15. */
+/* Writes a header-free packet: the body of the one entry, and nothing else. On LV_OK: *written is the
+ * number of octets written to out.
+ * Refuses, in this order: 21 (form not LV_HEADER_FREE); for each entry 5, 19, 17, a blank too; then 17 if
+ * there is not exactly one entry; then 15. */
 uint8_t lv_packet_write_header_free(uint8_t form, uint8_t max_l, uint8_t max_b, const uint8_t *entries,
                                     size_t entries_len, uint8_t *out, size_t out_len, size_t *written);
 
-/* Reads a recording: the opening octets, then entries of one octet and a body. On LV_OK: *count is the number of its frames.
+/* Reads a recording: the opening octets, then entries of one octet and a body. On LV_OK: *count is the
+ * number of its frames.
  * Refuses, in this order: 18; entry by entry 5, 19. */
 uint8_t lv_recording_read(const uint8_t *recording, size_t len, size_t *count);
 
-/* Finds frame k of a recording, k from 0. On LV_OK: *type is its type, and its body is the *size octets at recording + *start.
+/* Finds frame k of a recording, k from 0. On LV_OK: *type is its type, and its body is the *size octets,
+ * at most LV_BODY_MAX, at recording + *start.
  * Refuses as lv_recording_read does; a recording that can be read, with no frame k, answers 21. */
-uint8_t lv_recording_frame(const uint8_t *recording, size_t len, size_t k, uint8_t *type, size_t *start, size_t *size);
+uint8_t lv_recording_frame(const uint8_t *recording, size_t len, size_t k, uint8_t *type, size_t *start,
+                           size_t *size);
 
-/* Writes a recording: the opening octets, then the entries with their F and D bits cleared. On LV_OK: *written is the number
- * of octets written to out, LV_OPENING_OCTETS + entries_len.
+/* Writes a recording: the opening octets, then the entries with their F and D bits cleared. On LV_OK:
+ * *written is the number of octets written to out, LV_OPENING_OCTETS + entries_len.
  * Refuses, in this order: entry by entry 5, 19; then 15. */
-uint8_t lv_recording_write(const uint8_t *entries, size_t entries_len, uint8_t *out, size_t out_len, size_t *written);
+uint8_t lv_recording_write(const uint8_t *entries, size_t entries_len, uint8_t *out, size_t out_len,
+                           size_t *written);
 
-/* Records a capture: at most 65,536 octets, big-endian: a count (2, at most 256), then for each packet its source (4), sequence
- * (2), timestamp (4) and length (2), then all payloads in that order and nothing after. A session takes the first packet's
- * source, interleaved, maxima 7 and 10. On LV_OK: *written is the number of octets of the recording written to out, at most
- * 331,807.
+/* Records a capture: at most LV_CAPTURE_MAX octets, big-endian: a count (2, at most
+ * LV_CAPTURE_PACKETS_MAX), then for each packet its source (4), sequence (2), timestamp (4) and length
+ * (2), then all payloads in that order and nothing after. A session takes the first packet's source,
+ * interleaved, maxima 7 and 10. On LV_OK: *written is the number of octets of the recording written to
+ * out, at most LV_RECORDING_MAX.
  * Refuses, in this order: 255 (bad capture), 15. */
 uint8_t lv_capture_record(const uint8_t *capture, size_t len, uint8_t *out, size_t out_len, size_t *written);
 
-/* Sessions and holdings live in octets that the host lends: a session hears one source, a holding is one group as far as
- * heard. The octets are the library's own: the host lends them, copies them and compares them whole, but does not look into
- * them. A wholly zero session is one never opened; a wholly zero holding holds no packet. Equal knowledge is equal octets.
- * A call that accepts writes all LV_SESSION_OCTETS or LV_HOLDING_OCTETS of what it changes, and leaves octets past them as
- * they are; a buffer with fewer answers 15 before all else. Octets that no call has written count as a session that is not
- * open, or as a holding of no packet, wherever they break the library's rules. */
-enum {
-    LV_SESSION_OCTETS = 2048,
-    LV_HOLDING_OCTETS = 2048
-};
+/* Sessions and holdings live in octets that the host lends: a session hears one source, a holding is one
+ * group as far as heard. The octets are the library's own: the host lends them, copies them and compares
+ * them whole, but does not look into them. A wholly zero session is one never opened; a wholly zero
+ * holding holds no packet. Equal knowledge is equal octets. A call that accepts writes all
+ * LV_SESSION_OCTETS or LV_HOLDING_OCTETS of what it changes, and leaves octets past them as they are; a
+ * buffer with fewer answers 15 before all else. Octets that no call has written count as a session that is
+ * not open, or as a holding of no packet, wherever they break the library's rules. */
 
-/* Opens a session for a source in the agreed form, whatever the octets were: a fresh session that holds no group and
- * remembers none.
+/* Opens a session for a source in the agreed form, whatever the octets were: a fresh session that holds no
+ * group and remembers none.
  * Refuses, in this order: 15 (len below LV_SESSION_OCTETS), 21 (no such form, maxima out of range). */
-uint8_t lv_session_open(uint32_t source, uint8_t form, uint8_t max_l, uint8_t max_b, uint8_t *session, size_t len);
+uint8_t lv_session_open(uint32_t source, uint8_t form, uint8_t max_l, uint8_t max_b, uint8_t *session,
+                        size_t len);
 
-/* Offers a packet to a session. On LV_OK: it is held, or was already, and *lost is the number of frames lost before the group
- * that it begins; 0 if it begins none.
- * Refuses, in this order: 15 (len below LV_SESSION_OCTETS), 21 (not open), 10, the payload's refusals (1 to 9); then by its
- * place 11, 12, 13, 14, 16. After 12 the host pours the group and offers the packet again. */
+/* Offers a packet to a session. On LV_OK: it is held, or was already, and *lost is the number of frames
+ * lost before the group that it begins, at most LV_LOST_MAX; 0 if it begins none.
+ * Refuses, in this order: 15 (len below LV_SESSION_OCTETS), 21 (not open), 10, the payload's refusals (1
+ * to 9); then by its place 11, 12, 13, 14, 16. After 12 the host pours the group and offers the packet
+ * again. */
 uint8_t lv_session_offer(uint8_t *session, size_t len, uint32_t source, uint16_t sequence, uint32_t timestamp,
                          const uint8_t *payload, size_t payload_len, size_t *lost);
 
-/* Pours the group that a session holds, and ends it: its frames in time order as recording entries, those not heard as
- * erasures. On LV_OK: *written is the number of octets written to out, at most 1,840.
- * Refuses, in this order: 15 (len below LV_SESSION_OCTETS), 21 (not open, or no group held), 15 (out_len too small). */
+/* Pours the group that a session holds, and ends it: its frames in time order as recording entries, those
+ * not heard as erasures. The session remembers the group's numbers, and counts from them what is lost. On
+ * LV_OK: *written is the number of octets written to out, at most LV_POURED_MAX.
+ * Refuses, in this order: 15 (len below LV_SESSION_OCTETS), 21 (not open, or no group held), 15 (out_len
+ * too small). */
 uint8_t lv_session_pour(uint8_t *session, size_t len, uint8_t *out, size_t out_len, size_t *written);
 
-/* Copies the group that a session holds out as a holding. The session stays as it is.
- * Refuses, in this order: 15 (len below LV_SESSION_OCTETS, or holding_len below LV_HOLDING_OCTETS), 21 (not open, or no group
- * held). */
+/* Copies the group that a session holds out as a holding. The session stays as it is: it still holds the
+ * group.
+ * Refuses, in this order: 15 (len below LV_SESSION_OCTETS, or holding_len below LV_HOLDING_OCTETS), 21
+ * (not open, or no group held). */
 uint8_t lv_session_copy(const uint8_t *session, size_t len, uint8_t *holding, size_t holding_len);
 
 /* Ends a session, whatever the octets were: all LV_SESSION_OCTETS become zero.
  * Refuses: 15 (len below LV_SESSION_OCTETS). */
 uint8_t lv_session_end(uint8_t *session, size_t len);
 
-/* Joins two holdings of one group: out holds every packet held in either.
- * Refuses, in this order: 15 (a_len, b_len or out_len below LV_HOLDING_OCTETS), 21 (either holds no packet), 20, 14. */
-uint8_t lv_holding_join(const uint8_t *a, size_t a_len, const uint8_t *b, size_t b_len, uint8_t *out, size_t out_len);
+/* Joins two holdings of one group: out holds every packet held in either. The two stay as they are.
+ * Refuses, in this order: 15 (a_len, b_len or out_len below LV_HOLDING_OCTETS), 21 (either holds no
+ * packet), 20, 14. */
+uint8_t lv_holding_join(const uint8_t *a, size_t a_len, const uint8_t *b, size_t b_len, uint8_t *out,
+                        size_t out_len);
 
 /* Pours a holding, copied or joined, as lv_session_pour does. The holding stays as it is.
- * Refuses, in this order: 15 (len below LV_HOLDING_OCTETS), 21 (it holds no packet), 15 (out_len too small). */
+ * Refuses, in this order: 15 (len below LV_HOLDING_OCTETS), 21 (it holds no packet), 15 (out_len too
+ * small). */
 uint8_t lv_holding_pour(const uint8_t *holding, size_t len, uint8_t *out, size_t out_len, size_t *written);
 
 #ifdef __cplusplus

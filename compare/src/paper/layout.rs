@@ -1,354 +1,182 @@
-//! Sessions and holdings as octets, 2,048 each. Numbers are big-endian.
+//! Sessions and holdings as octets. Numbers are big-endian.
 //!
-//! A holding:
-//!
-//! ```text
-//!    0..4    source             10         L
-//!    4..6    base sequence      11         B
-//!    6..10   base timestamp     12..20     packets 0 to 7: 1 held, 0 not
-//!   20..100  type of frame k of packet n at 20 + 10 n + k, less 14 modulo 256
-//!  100..1860 body of frame k of packet n from 100 + 220 n + 22 k on
-//! 1860..2048 zero, not looked at
-//! ```
-//!
-//! A session:
-//!
-//! ```text
-//!    0       1 open, 0 not      8          1 if a group was poured before, else 0
-//!    1       form               9..11      its base sequence
-//!    2       maximum L          11         its L
-//!    3       maximum B          12         its B
-//!    4..8    source             13..16     zero, not looked at
-//!   16..1876 the held group, as the first octets of a holding; all zero if none
-//! 1876..2048 zero, not looked at
-//! ```
-//!
-//! Maxima are 0 and not looked at where the form is header-free. Octets that
-//! break document 01, "Groups", count as holding no packet, or as not open.
+//! A holding is a group: its numbers, flags, types and bodies. A session is what it is open for, its last poured group,
+//! and the group that it holds, all zero if it holds none. All other octets are zero and not looked at; so are the
+//! maxima of the header-free form.
 
-use super::frames::FrameType;
+use super::form::{in_range, Form, Limits, MOST_B};
+use super::frames::{FrameType, LONGEST};
 use super::groups::{Base, Group};
 use super::holding::{HeldFrame, HeldPacket, Holding};
-use super::place::Heard;
-use super::session::{Open, Session};
-use super::{Form, Limits, Slip};
+use super::session::{Last, Open, Session};
 
 /// The octets of a session or of a holding.
 pub const OCTETS: usize = 2048;
 
-/// The octets of a group, which lie first in a holding.
-pub const GROUP: usize = 1860;
+/// "A holding has room for 80 frames of 22 octets."
+pub use super::holding::PACKETS;
+pub const FRAMES: usize = MOST_B as usize;
+pub const BODY: usize = LONGEST;
 
-/// Where the group lies in a session.
+/// Where a group's parts lie: numbers; for each packet, 1 held, 0 not; types, less 14 modulo 256; bodies; and the end.
+pub const SOURCE: usize = 0;
+pub const SEQUENCE: usize = 4;
+pub const TIMESTAMP: usize = 6;
+pub const L: usize = 10;
+pub const B: usize = 11;
+pub const FLAGS: usize = 12;
+pub const TYPES: usize = FLAGS + PACKETS;
+pub const BODIES: usize = TYPES + PACKETS * FRAMES;
+pub const GROUP: usize = BODIES + PACKETS * FRAMES * BODY;
+
+/// Where a session's parts lie: 1 open, 0 not; form, maxima, source; 1 if a group was poured before, else 0, with its
+/// base sequence number, L and B; the group; and the end.
+pub const OPEN: usize = 0;
+pub const FORM: usize = 1;
+pub const MAX_L: usize = 2;
+pub const MAX_B: usize = 3;
+pub const OPEN_SOURCE: usize = 4;
+pub const POURED: usize = 8;
+pub const LAST_SEQUENCE: usize = 9;
+pub const LAST_L: usize = 11;
+pub const LAST_B: usize = 12;
 pub const GROUP_AT: usize = 16;
-
-/// Where the octets past a session's group begin.
 pub const SESSION_END: usize = GROUP_AT + GROUP;
 
-/// "A holding has room for 80 frames of 22 octets."
-pub const PACKETS: usize = 8;
-pub const FRAMES: usize = 10;
-pub const BODY: usize = 22;
-
-/// Where flags, types and bodies lie in a group.
-pub const FLAGS: usize = 12;
-pub const TYPES: usize = 20;
-pub const BODIES: usize = 100;
-
-/// A session with what its octets say of the last poured group. They stay as they
-/// are until a group is poured, or the session is opened or ended; also where no
-/// group was poured before.
-#[derive(Clone, Debug, Default)]
-pub struct Record {
-    pub session: Session,
-    last: [u8; 5],
-}
-
-/// Where the type of a frame lies in a group, and where its body does.
-pub fn places(n: usize, k: usize, slip: Slip) -> (usize, usize) {
-    let place = match slip {
-        Slip::PacketsFrameByFrame => PACKETS * k + n,
-        _ => FRAMES * n + k,
-    };
+/// Where the type of frame k of packet n lies in a group, and where its body does.
+pub fn places(n: usize, k: usize) -> (usize, usize) {
+    let place = FRAMES * n + k;
     (TYPES + place, BODIES + BODY * place)
 }
 
 /// The octets of a holding.
-pub fn of_holding(holding: &Holding, slip: Slip) -> Vec<u8> {
-    let mut octets = of_group(holding, slip);
+pub fn of_holding(holding: &Holding) -> Vec<u8> {
+    let mut octets = of_group(holding);
     octets.resize(OCTETS, 0);
     octets
 }
 
 /// The first octets of a holding, which a session has too.
-fn of_group(holding: &Holding, slip: Slip) -> Vec<u8> {
+fn of_group(holding: &Holding) -> Vec<u8> {
     let Group { source, base, l, b } = holding.group;
     let mut octets = vec![0; GROUP];
-    octets[..4].copy_from_slice(&of_u32(source, slip));
-    octets[4..6].copy_from_slice(&of_u16(base.sequence, slip));
-    octets[6..10].copy_from_slice(&of_u32(base.timestamp, slip));
-    octets[10..12].copy_from_slice(&[l, b]);
-    // Only a slip brings more packets or frames than there is room for.
-    for (n, packet) in holding.packets.iter().enumerate().take(PACKETS) {
-        octets[FLAGS + n] = packet.is_some().into();
-        for (k, frame) in packet.iter().flatten().enumerate().take(FRAMES) {
-            let (at, body) = places(n, k, slip);
-            octets[at] = of_type(frame.kind, slip);
-            octets[body..body + frame.body.len()].copy_from_slice(&frame.body);
-        }
+    put(&mut octets, SOURCE, &source.to_be_bytes());
+    put(&mut octets, SEQUENCE, &base.sequence.to_be_bytes());
+    put(&mut octets, TIMESTAMP, &base.timestamp.to_be_bytes());
+    put(&mut octets, L, &[l, b]);
+    for (n, k, frame) in holding.frames() {
+        let (at, body) = places(n, k);
+        octets[FLAGS + n] = 1;
+        octets[at] = frame.kind.number().wrapping_sub(FrameType::Erasure.number());
+        put(&mut octets, body, &frame.body);
     }
     octets
 }
 
-/// The octet of a type, less 14 modulo 256.
-fn of_type(kind: FrameType, slip: Slip) -> u8 {
-    match slip {
-        Slip::TypesAsTheyAre => kind.number(),
-        _ => kind.number().wrapping_sub(14),
-    }
-}
-
-/// The holding that octets are, unless they count as holding no packet.
-pub fn holding(octets: &[u8], slip: Slip) -> Option<Holding> {
-    if slip == Slip::SpareJudged && !all_zero(&octets[GROUP..]) {
-        return None;
-    }
-    group(&octets[..GROUP], slip)
-}
-
-/// The same for the first octets of a holding.
-fn group(octets: &[u8], slip: Slip) -> Option<Holding> {
-    let held = held_flags(&octets[FLAGS..TYPES], slip)?;
-    let base =
-        Base { sequence: u16_of(&octets[4..6], slip), timestamp: u32_of(&octets[6..10], slip) };
-    let (l, b) = (l_of(octets[10], slip)?, b_of(octets[11], slip)?);
-    let group = Group { source: u32_of(&octets[..4], slip), base, l, b };
-    let above = &held[usize::from(group.packets())..];
-    if above.contains(&true) && !lenient(slip, Slip::PacketAboveLTaken) {
-        return None;
-    }
-    let packet = |n| held_packet(octets, n, held[n], b.into(), slip);
-    let mut packets: Vec<Option<HeldPacket>> = (0..PACKETS).map(packet).collect::<Option<_>>()?;
-    packets.truncate(group.packets().into());
-    packets.iter().any(Option::is_some).then_some(Holding { group, packets })
-}
-
-/// Whether a slip leaves out one judgement, or all of a group's.
-fn lenient(slip: Slip, one: Slip) -> bool {
-    slip == one || slip == Slip::UnsoundTaken
-}
-
-/// Which packets are held; octets are no holding if a flag is above 1.
-fn held_flags(flags: &[u8], slip: Slip) -> Option<Vec<bool>> {
-    let held = |&flag: &u8| match (flag, slip) {
-        (0, _) => Some(false),
-        (1, _) | (_, Slip::FlagAboveOneHeld | Slip::UnsoundTaken) => Some(true),
-        (_, Slip::FlagAboveOneNotHeld) => Some(false),
-        _ => None,
-    };
-    flags.iter().map(held).collect()
-}
-
-/// An L, unless it is above 7.
-fn l_of(l: u8, slip: Slip) -> Option<u8> {
-    match l {
-        0..=7 => Some(l),
-        _ => lenient(slip, Slip::LAboveSevenTaken).then_some(7),
-    }
-}
-
-/// A B, unless it is not 1 to 10.
-fn b_of(b: u8, slip: Slip) -> Option<u8> {
-    match b {
-        1..=10 => Some(b),
-        _ => lenient(slip, Slip::BOutOfRangeTaken).then_some(b.clamp(1, 10)),
-    }
-}
-
-/// Packet n: its frames if it is held. `None` if it is not sound: "room not used
-/// by a held frame is zero, and a place not held reads as an erasure".
-fn held_packet(
-    octets: &[u8],
-    n: usize,
-    held: bool,
-    b: usize,
-    slip: Slip,
-) -> Option<Option<HeldPacket>> {
-    let frame = |k| {
-        let (at, body) = places(n, k, slip);
-        (octets[at], &octets[body..body + BODY])
-    };
-    let count = if held { b } else { 0 };
-    let unused = (count..FRAMES).all(|k| frame(k).0 == 0 && all_zero(frame(k).1));
-    if !unused && !lenient(slip, Slip::PlaceNotHeldNotJudged) {
-        return None;
-    }
-    let frames: Option<HeldPacket> = (0..count).map(|k| held_frame(frame(k), slip)).collect();
-    Some(held.then_some(frames?))
-}
-
-/// A held frame, unless its type is not in the table or room past its body is not
-/// zero.
-fn held_frame((octet, room): (u8, &[u8]), slip: Slip) -> Option<HeldFrame> {
-    let number = match slip {
-        Slip::TypesAsTheyAre => octet,
-        _ => octet.wrapping_add(14),
-    };
-    let kind = match FrameType::numbered(number) {
-        None if lenient(slip, Slip::HeldTypeNotJudged) => FrameType::Erasure,
-        kind => kind?,
-    };
-    let (body, rest) = room.split_at(kind.body());
-    let sound = all_zero(rest) || lenient(slip, Slip::RoomPastBodyNotJudged);
-    sound.then(|| HeldFrame { kind, body: body.to_vec() })
-}
-
-impl Record {
-    /// The session that octets are. One that "counts as not open" is as one never
-    /// opened.
-    pub fn read(octets: &[u8], slip: Slip) -> Record {
-        Record::open(octets, slip).unwrap_or_default()
-    }
-
-    /// The session that octets are, if it is open.
-    fn open(octets: &[u8], slip: Slip) -> Option<Record> {
-        judge_flag(octets[0], slip == Slip::OpenFlagAboveOneOpen).filter(|open| *open)?;
-        judge_flag(octets[1], slip == Slip::FormOctetAboveOneTaken)?;
-        let poured = judge_flag(octets[8], slip == Slip::PouredFlagAboveOneTaken)?;
-        if slip == Slip::SpareJudged && !all_zero(&octets[SESSION_END..OCTETS]) {
-            return None;
-        }
-        let source = u32_of(&octets[4..8], slip);
-        let form = form(octets, slip)?;
-        let held = held_group(&octets[GROUP_AT..SESSION_END], source, slip)?;
-        let before = last_poured(octets, source, poured, held.is_some(), slip)?;
-        let heard = match (held, before) {
-            (Some(holding), _) => Heard::Held(holding),
-            (None, Some(group)) => Heard::Poured(group),
-            (None, None) => Heard::Nothing,
+/// The octets of a session.
+pub fn of_session(session: &Session) -> Vec<u8> {
+    let mut octets = vec![0; OCTETS];
+    if let Some(Open { source, form }) = session.open {
+        let [form, max_l, max_b] = match form {
+            Form::HeaderFree => [0; 3],
+            Form::Interleaved(Limits { max_l, max_b }) => [1, max_l, max_b],
         };
-        let last = octets[8..13].try_into().ok()?;
-        Some(Record { session: Session { open: Some(Open { source, form }), heard }, last })
+        put(&mut octets, OPEN, &[1, form, max_l, max_b]);
+        put(&mut octets, OPEN_SOURCE, &source.to_be_bytes());
     }
-
-    /// The octets of a session, with what was heard of the last poured group.
-    pub fn octets(&self, slip: Slip) -> Vec<u8> {
-        let mut octets = vec![0; OCTETS];
-        if let Some(Open { source, form }) = self.session.open {
-            let [form, max_l, max_b] = match form {
-                Form::HeaderFree => [0; 3],
-                Form::Interleaved(Limits { max_l, max_b }) => [1, max_l, max_b],
-            };
-            octets[..4].copy_from_slice(&[1, form, max_l, max_b]);
-            octets[4..8].copy_from_slice(&of_u32(source, slip));
-        }
-        octets[8..13].copy_from_slice(&self.last(slip));
-        if let Heard::Held(holding) = &self.session.heard {
-            octets[GROUP_AT..SESSION_END].copy_from_slice(&of_group(holding, slip));
-        }
-        octets
+    let Last { poured, base, l, b } = session.last;
+    octets[POURED] = poured.into();
+    put(&mut octets, LAST_SEQUENCE, &base.to_be_bytes());
+    put(&mut octets, LAST_L, &[l, b]);
+    if let Some(holding) = &session.held {
+        put(&mut octets, GROUP_AT, &of_group(holding));
     }
-
-    /// Octets 8 to 12: the last poured group.
-    fn last(&self, slip: Slip) -> [u8; 5] {
-        match &self.session.heard {
-            Heard::Nothing => [0; 5],
-            Heard::Held(_) if slip == Slip::HeldForgetsLast => [0; 5],
-            Heard::Held(_) => self.last,
-            Heard::Poured(Group { base, l, b, .. }) => {
-                let [high, low] = of_u16(base.sequence, slip);
-                [1, high, low, *l, *b]
-            }
-        }
-    }
+    octets
 }
 
-/// A flag, unless it is above 1; then it is set if it is taken.
-fn judge_flag(flag: u8, taken: bool) -> Option<bool> {
-    match flag {
-        0 => Some(false),
-        1 => Some(true),
-        _ => taken.then_some(true),
+/// The holding that octets, or their first, are. `None` if it "counts as holding no packet": with "L above 7, B not 1
+/// to 10, a packet above L held", a flag above 1, or a packet that breaks the rules.
+pub fn holding(octets: &[u8]) -> Option<Holding> {
+    let (l, b) = (octets[L], octets[B]);
+    let source = u32::from_be_bytes(part(octets, SOURCE));
+    let sequence = u16::from_be_bytes(part(octets, SEQUENCE));
+    let timestamp = u32::from_be_bytes(part(octets, TIMESTAMP));
+    in_range(l, b).then_some(())?;
+    let mut holding = Holding::of(Group { source, base: Base { sequence, timestamp }, l, b });
+    for (n, packet) in holding.packets.iter_mut().enumerate() {
+        *packet = held_packet(octets, n, b.into())?;
     }
+    let mut above = holding.packets.iter().skip(usize::from(l) + 1);
+    let sound = above.all(Option::is_none) && holding.packets.iter().any(Option::is_some);
+    sound.then_some(holding)
 }
 
-/// The form of a session, unless its maxima are out of range.
-fn form(octets: &[u8], slip: Slip) -> Option<Form> {
-    let limits = Limits { max_l: octets[2], max_b: octets[3] };
-    let checked = limits.checked(Slip::None).ok();
-    match octets[1] {
-        0 if slip == Slip::HeaderFreeSessionMaximaJudged => checked.and(Some(Form::HeaderFree)),
-        0 => Some(Form::HeaderFree),
-        _ if slip == Slip::SessionMaximaNotJudged => Some(Form::Interleaved(limits)),
-        _ => checked.map(Form::Interleaved),
-    }
+/// Packet n, if it is held. `None` if it breaks the rules: "room not used by a held frame is zero, and a place not held
+/// reads as an erasure".
+fn held_packet(octets: &[u8], n: usize, b: usize) -> Option<Option<HeldPacket>> {
+    let held = flag(octets[FLAGS + n])?;
+    let (used, unused) = if held { (0..b, b..FRAMES) } else { (0..0, 0..FRAMES) };
+    let empty = |k| {
+        let (at, body) = places(n, k);
+        octets[at] == 0 && all_zero(&octets[body..body + BODY])
+    };
+    unused.into_iter().all(empty).then_some(())?;
+    let frames: HeldPacket = used.map(|k| held_frame(octets, n, k)).collect::<Option<_>>()?;
+    Some(held.then_some(frames))
 }
 
-/// The group that a session holds, if any. `None` if there is one that breaks
-/// document 01, holds no packet, "or names another source".
-fn held_group(octets: &[u8], source: u32, slip: Slip) -> Option<Option<Holding>> {
+/// Frame k of packet n, held. `None` if it breaks the rules: "a type not in the table", or room past its body not zero.
+fn held_frame(octets: &[u8], n: usize, k: usize) -> Option<HeldFrame> {
+    let (at, body) = places(n, k);
+    let kind = FrameType::numbered(octets[at].wrapping_add(FrameType::Erasure.number()))?;
+    let (body, rest) = octets[body..body + BODY].split_at(kind.body());
+    all_zero(rest).then(|| HeldFrame { kind, body: body.to_vec() })
+}
+
+/// The session that octets are.
+pub fn session(octets: &[u8]) -> Session {
+    open_session(octets).unwrap_or_default()
+}
+
+/// The session that octets are, if it is open. "A session counts as not open if its held group breaks this or names
+/// another source, if the L or B of its last poured group is out of these ranges, or if its maxima are."
+fn open_session(octets: &[u8]) -> Option<Session> {
+    let (open, poured) = (flag(octets[OPEN])?, flag(octets[POURED])?);
+    let limits = Limits { max_l: octets[MAX_L], max_b: octets[MAX_B] };
+    let form = Form::agreed(octets[FORM], limits).ok()?;
+    let source = u32::from_be_bytes(part(octets, OPEN_SOURCE));
+    let base = u16::from_be_bytes(part(octets, LAST_SEQUENCE));
+    let last = Last { poured, base, l: octets[LAST_L], b: octets[LAST_B] };
+    let held = held_group(&octets[GROUP_AT..SESSION_END], source)?;
+    let sound = open && (!last.poured || in_range(last.l, last.b));
+    sound.then_some(Session { open: Some(Open { source, form }), held, last })
+}
+
+/// The group that a session holds, if any. `None` if there is one that breaks the rules "or names another source".
+fn held_group(octets: &[u8], source: u32) -> Option<Option<Holding>> {
     if all_zero(octets) {
         return Some(None);
     }
-    let held = match group(octets, slip) {
-        None if slip == Slip::NoPacketTaken && all_zero(&octets[FLAGS..]) => return Some(None),
-        held => held?,
-    };
-    let own = held.group.source == source || slip == Slip::GroupOfAnotherSourceTaken;
-    own.then_some(Some(held))
+    let holding = holding(octets)?;
+    (holding.group.source == source).then_some(Some(holding))
 }
 
-/// The last poured group, if there is one. `None` if its L or B is out of range.
-/// Its timestamp is not kept.
-fn last_poured(
-    octets: &[u8],
-    source: u32,
-    poured: bool,
-    held: bool,
-    slip: Slip,
-) -> Option<Option<Group>> {
-    let (l, b) = (octets[11], octets[12]);
-    let sound = (l <= 7 || slip == Slip::LastLNotJudged)
-        && ((1..=10).contains(&b) || slip == Slip::LastBNotJudged);
-    let judged = match slip {
-        Slip::LastJudgedUnpoured => poured || octets[9..13] != [0; 4],
-        Slip::LastNotJudgedHeld => poured && !held,
-        _ => poured,
-    };
-    if judged && !sound {
-        return None;
-    }
-    let base = Base { sequence: u16_of(&octets[9..11], slip), timestamp: 0 };
-    // Only a slip brings an L above 7 here.
-    Some(poured.then_some(Group { source, base, l: l.min(7), b }))
+/// What a flag says, unless it is above 1.
+fn flag(octet: u8) -> Option<bool> {
+    (octet <= 1).then_some(octet == 1)
 }
 
+/// Whether all of these are zero.
 fn all_zero(octets: &[u8]) -> bool {
     octets.iter().all(|&octet| octet == 0)
 }
 
-fn of_u16(number: u16, slip: Slip) -> [u8; 2] {
-    match slip {
-        Slip::NumbersLittleEndian => number.to_le_bytes(),
-        _ => number.to_be_bytes(),
-    }
+/// Puts a part at its place.
+fn put(octets: &mut [u8], at: usize, part: &[u8]) {
+    octets[at..at + part.len()].copy_from_slice(part);
 }
 
-fn of_u32(number: u32, slip: Slip) -> [u8; 4] {
-    match slip {
-        Slip::NumbersLittleEndian => number.to_le_bytes(),
-        _ => number.to_be_bytes(),
-    }
-}
-
-fn u16_of(octets: &[u8], slip: Slip) -> u16 {
-    u32_of(octets, slip) as u16
-}
-
-fn u32_of(octets: &[u8], slip: Slip) -> u32 {
-    let add = |number: u32, octet: &u8| number << 8 | u32::from(*octet);
-    match slip {
-        Slip::NumbersLittleEndian => octets.iter().rev().fold(0, add),
-        _ => octets.iter().fold(0, add),
-    }
+/// The part of so many octets at a place.
+fn part<const COUNT: usize>(octets: &[u8], at: usize) -> [u8; COUNT] {
+    octets[at..at + COUNT].try_into().expect("a part has its count of octets")
 }

@@ -1,28 +1,39 @@
-//! Document 01, read anew: what the landing voice library ought to answer.
+//! Document 01, read anew: what the landing voice library ought to answer. Nothing here comes from the library.
 //!
-//! Nothing here comes from the library. Each module takes one section of the
-//! document and gives its refusals as their numbers ("Answers by number").
-//! Every reading takes a [`Slip`]: `Slip::None` is document 01, any other is
-//! document 01 with one deliberate mistake, which the comparison has to catch.
+//! A module takes a section of the document, in its words; a refusal is its number. Each stands only on those above it:
+//!
+//! ```text
+//! answers      "Answers by number"    refusals, and 15
+//! frames       "Frames"               types, bodies, what is sendable
+//! form         "Payloads"             the agreed form and its maxima
+//! payload      "Payloads"             reading payloads
+//! groups       "Groups"               base numbers, time places, distances
+//! holding      "Groups", "Session"    one group as far as heard; poured, joined
+//! session      "Session"              open, offer, pour, copy out, end
+//! entries      "Recordings"           the walk over entries
+//! packets      "Writing packets"
+//! recordings   "Recordings"
+//! capture      "Capture program"
+//! layout                              sessions and holdings as octets
+//! lent                                what calls do with such octets
+//! host                                what each C call does, on numbers and buffers
+//! ```
 
+mod answers;
 pub mod capture;
 mod entries;
-mod form;
+pub mod form;
 pub mod frames;
 pub mod groups;
 pub mod holding;
-pub mod joining;
+pub mod host;
 pub mod layout;
-pub mod lent;
-pub mod packets;
+mod lent;
+mod packets;
 pub mod payload;
-pub mod place;
-pub mod recordings;
-mod room;
+mod recordings;
 pub mod session;
-mod slip;
 #[cfg(test)]
 mod tests;
 
 pub use form::{Form, Limits};
-pub use slip::Slip;

@@ -1,26 +1,37 @@
-//! Sessions (document 01, "Session"). "Every refused offer leaves the session as
-//! it was"; so does every other refusal.
+//! Sessions (document 01, "Session").
 
-use super::holding::{self, Holding};
-use super::place::{Heard, Offered};
-use super::{Form, Limits, Slip};
+use super::answers::{refuse, Answer};
+use super::frames::Frame;
+use super::groups::{self, Base, Group};
+use super::holding::{self, HeldFrame, HeldPacket, Holding};
+use super::{payload, Form};
 
-/// A session, never opened at first.
-#[derive(Clone, Debug, Default)]
+/// A session: what it is open for, the group that it holds, and its last poured group. One never opened is the default,
+/// and one that "counts as not open" is as one never opened.
+#[derive(Clone, Debug, Default, PartialEq, Eq)]
 pub struct Session {
     pub open: Option<Open>,
-    pub heard: Heard,
+    pub held: Option<Holding>,
+    pub last: Last,
 }
 
-/// "Opening names the source and the agreed form."
-#[derive(Clone, Copy, Debug)]
+/// What a session is open for.
+#[derive(Clone, Copy, Debug, PartialEq, Eq)]
 pub struct Open {
     pub source: u32,
     pub form: Form,
 }
 
-/// "A box hands us source number [...], sequence number [...], timestamp [...]
-/// and payload."
+/// "One poured before (base b, length L, bundle B)": its numbers are looked at only if one was poured.
+#[derive(Clone, Copy, Debug, Default, PartialEq, Eq)]
+pub struct Last {
+    pub poured: bool,
+    pub base: u16,
+    pub l: u8,
+    pub b: u8,
+}
+
+/// "A box hands us source number (32 bits), sequence number (16 bits), timestamp (32 bits) and payload."
 #[derive(Clone, Debug, PartialEq, Eq)]
 pub struct Packet {
     pub source: u32,
@@ -29,87 +40,95 @@ pub struct Packet {
     pub payload: Vec<u8>,
 }
 
+/// A packet that was read: its group, its N and its frames.
+struct Heard {
+    group: Group,
+    n: usize,
+    frames: HeldPacket,
+}
+
 impl Session {
-    /// 21 if a maximum is out of range, else a fresh session.
-    pub fn open(&mut self, source: u32, form: u8, limits: Limits, slip: Slip) -> Result<(), u8> {
-        let agreed = Form::agreed(form, limits, slip);
-        let form = match slip {
-            Slip::RefusedOpeningEnds if agreed.is_err() => {
-                self.end(slip);
-                return Err(21);
-            }
-            Slip::OpenNotOpenedAgain if self.open.is_some() => return Err(21),
-            _ => agreed?,
-        };
-        let heard = match slip {
-            Slip::OpeningKeepsGroup if self.open.is_some() => self.heard.clone(),
-            Slip::EndingKeepsGroup if self.open.is_none() => self.heard.clone(),
-            _ => Heard::Nothing,
-        };
-        *self = Session { open: Some(Open { source, form }), heard };
-        Ok(())
+    /// "Opening names the source and the agreed form [...] and otherwise gives a fresh session."
+    pub fn opened(source: u32, form: Form) -> Session {
+        Session { open: Some(Open { source, form }), ..Session::default() }
     }
 
-    /// "Offering a packet checks in this order: open session (21), source (10),
-    /// payload (1 to 9), place." The answer is the number of lost frames.
-    pub fn offer(&mut self, packet: &Packet, slip: Slip) -> Result<u32, u8> {
+    /// "Offering a packet checks in this order: open session (21), source (10), payload (1 to 9), place. Every refused
+    /// offer leaves the session as it was." The answer is the number of lost frames.
+    pub fn offer(&mut self, packet: &Packet) -> Answer<u32> {
         let Open { source, form } = self.open.ok_or(21)?;
-        let ten = if packet.source == source { Ok(()) } else { Err(10) };
-        let read = Offered::read(form, packet, slip);
-        let judged = match slip {
-            Slip::PayloadBeforeSource => read.and_then(|offered| ten.and(Ok(offered))),
-            Slip::AnySourceTaken => read,
-            _ => ten.and(read),
-        };
-        let answer = judged.and_then(|offered| self.heard.take(offered, slip));
-        match (slip, answer) {
-            (Slip::BrokenPayloadEndsGroup, Err(1..=9))
-            | (Slip::TwelveEndsGroup, Err(12))
-            | (Slip::ThirteenEndsGroup, Err(13)) => self.heard = Heard::Nothing,
-            _ => {}
+        refuse(10, packet.source != source)?;
+        let heard = Heard::read(form, packet)?;
+        match &mut self.held {
+            Some(holding) => heard.join_group(holding).and(Ok(0)),
+            None => self.begin(heard),
         }
-        answer
     }
 
-    /// "Pouring [...] gives the octet count, and ends the group. Checks: session
-    /// open and group held (21), room (15)."
-    pub fn pour(&mut self, room: usize, slip: Slip) -> Result<Vec<u8>, u8> {
-        let held = self.held()?;
-        let (group, poured) = (held.group, holding::pour(Some(held), room, slip));
-        let heard = match slip {
-            Slip::PouringKeepsGroup => return poured,
-            Slip::PouringForgetsGroup => Heard::Nothing,
-            _ => Heard::Poured(group),
-        };
-        if poured.is_ok() || slip == Slip::RefusedPouringEndsGroup {
-            self.heard = heard;
-        }
-        poured
+    /// "The packet begins a group and the answer reports e x B lost frames before it"; 0 "with none before".
+    fn begin(&mut self, heard: Heard) -> Answer<u32> {
+        let lost = if self.last.poured { lost_between(&self.last, &heard.group)? } else { 0 };
+        let mut holding = Holding::of(heard.group);
+        holding.put_in(heard.n, &heard.frames)?;
+        self.held = Some(holding);
+        Ok(lost)
+    }
+
+    /// "Pouring [...] gives the octet count, and ends the group. Checks: session open and group held (21), room (15)."
+    pub fn pour(&mut self, room: usize) -> Answer<Vec<u8>> {
+        let held = self.copy()?;
+        let entries = holding::pour(Some(&held), room)?;
+        let Group { base, l, b, .. } = held.group;
+        self.last = Last { poured: true, base: base.sequence, l, b };
+        self.held = None;
+        Ok(entries)
     }
 
     /// "A session's holding can be copied out (21 likewise)."
-    pub fn copy(&mut self, slip: Slip) -> Result<Holding, u8> {
-        let copy = self.held()?.clone();
-        if slip == Slip::CopyingEndsGroup {
-            self.heard = Heard::Poured(copy.group);
-        }
-        Ok(copy)
+    pub fn copy(&self) -> Answer<Holding> {
+        self.open.and(self.held.clone()).ok_or(21)
+    }
+}
+
+impl Heard {
+    /// Reads a packet's payload in the session's form.
+    fn read(form: Form, packet: &Packet) -> Answer<Heard> {
+        let Packet { source, sequence, timestamp, ref payload } = *packet;
+        let read = payload::read(form, payload)?;
+        let held = |frame: &Frame| HeldFrame { kind: frame.kind, body: frame.body(payload).to_vec() };
+        let frames: HeldPacket = read.frames.iter().map(held).collect();
+        let base = Base::of(sequence, timestamp, read.n);
+        let group = Group { source, base, l: read.l, b: frames.len() as u8 };
+        Ok(Heard { group, n: read.n.into(), frames })
     }
 
-    /// "Ending a session clears all of it, a held group and the memory of the
-    /// last one; ending one never opened, or ended before, changes nothing."
-    pub fn end(&mut self, slip: Slip) {
-        self.open = None;
-        if slip != Slip::EndingKeepsGroup {
-            self.heard = Heard::Nothing;
-        }
+    /// "Place, with a group held. [...] d = 0: if L, B or base timestamp differ, 11." Then it is put in, or compared.
+    fn join_group(&self, holding: &mut Holding) -> Answer<()> {
+        judge_d(groups::d(self.group.base.sequence, holding.group.base.sequence), holding.group.l)?;
+        refuse(11, self.group != holding.group)?;
+        holding.put_in(self.n, &self.frames)
     }
+}
 
-    /// 21 if the session is not open or holds no group.
-    pub fn held(&self) -> Result<&Holding, u8> {
-        match &self.heard {
-            Heard::Held(holding) if self.open.is_some() => Ok(holding),
-            _ => Err(21),
-        }
+/// "d from 1 to L: 11. d from L + 1 to 32,767: 12. [...] d of 32,768 or more: 13." Nothing for d = 0.
+pub fn judge_d(d: u16, l: u8) -> Answer<()> {
+    match d {
+        0 => Ok(()),
+        d if d <= l.into() => Err(11),
+        d if d < 32_768 => Err(12),
+        _ => Err(13),
     }
+}
+
+/// "E of 32,768 or more, 13; else e over 100, 16."
+pub fn judge_e(e: u16) -> Answer<()> {
+    refuse(13, e >= 32_768)?;
+    refuse(16, e > 100)
+}
+
+/// "Else [...] e x B lost frames", B being the poured group's.
+fn lost_between(last: &Last, new: &Group) -> Answer<u32> {
+    let e = groups::e(new.base.sequence, last.base, last.l);
+    judge_e(e)?;
+    Ok(u32::from(e) * u32::from(last.b))
 }

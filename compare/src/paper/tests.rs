@@ -1,184 +1,181 @@
-//! Marked examples and edges of document 01 for groups and sessions.
+//! The marked examples P1 to P15 of document 01, the edges of d and e, and a call of another shape.
 
-use super::groups::{Base, Group};
-use super::place::{judge_d, judge_e};
-use super::session::{Packet, Session};
-use super::{capture, holding, joining, Limits, Slip};
-use crate::inputs::hex;
+use super::answers::Answer;
+use super::form::{Form, Limits};
+use super::groups::{d, e, Base};
+use super::holding::{self, Holding};
+use super::host::make;
+use super::session::{judge_d, judge_e, Packet, Session};
+use super::{capture, payload};
+use crate::call::Call;
 
-const SOURCE: u32 = 7;
+/// "Maxima 5 and 10 unless named."
+const DEFAULT: Limits = Limits { max_l: 5, max_b: 10 };
 
-/// The packets of the whole case.
-const FIRST: (u16, u32, &str) = (0xFFFF, 0xFFFF_FF60, "08 81 01 11 11 33 33");
-const SECOND: (u16, u32, &str) = (0x0000, 0, "09 81 01 22 22 44 44");
+/// A packet's sequence number, timestamp and payload.
+type Sent = (u16, u32, &'static str);
 
+/// The packets of the whole case, what they are poured as, and the case as a capture.
+const FIRST: Sent = (0xFFFF, 0xFFFF_FF60, "08 81 01 11 11 33 33");
+const SECOND: Sent = (0x0000, 0, "09 81 01 22 22 44 44");
+const POURED: &str = "01 11 11 01 22 22 01 33 33 01 44 44";
+const CAPTURE: &str = "00 02 00 00 00 07 FF FF FF FF FF 60 00 07 00 00 00 07 00 00 00 00 00 00 \
+                       00 07 08 81 01 11 11 33 33 09 81 01 22 22 44 44";
+
+/// Octets in hexadecimal.
+fn hex(text: &str) -> Vec<u8> {
+    let octet = |digits| u8::from_str_radix(digits, 16).expect("two digits");
+    text.split_whitespace().map(octet).collect()
+}
+
+/// The recording of these entries.
+fn recording(entries: &str) -> Option<Vec<u8>> {
+    Some(hex(&format!("23 21 45 56 52 43 0A {entries}")))
+}
+
+/// What the interleaved reader answers: L, N, and where the bodies begin.
+fn read(limits: Limits, payload: &str) -> Answer<(u8, u8, Vec<usize>)> {
+    let read = payload::read(Form::Interleaved(limits), &hex(payload))?;
+    Ok((read.l, read.n, read.frames.iter().map(|frame| frame.start).collect()))
+}
+
+/// A session opened for the source of the whole case, in the widest form.
 fn opened() -> Session {
-    let mut session = Session::default();
-    let limits = Limits { max_l: 7, max_b: 10 };
-    assert_eq!(session.open(SOURCE, 1, limits, Slip::None), Ok(()));
-    session
+    Session::opened(7, Form::Interleaved(Limits { max_l: 7, max_b: 10 }))
 }
 
-fn offer(
-    session: &mut Session,
-    sequence: u16,
-    timestamp: u32,
-    payload: Vec<u8>,
-) -> Result<u32, u8> {
-    session.offer(&Packet { source: SOURCE, sequence, timestamp, payload }, Slip::None)
+/// Offers a packet of that source.
+fn offer(session: &mut Session, (sequence, timestamp, payload): Sent) -> Answer<u32> {
+    session.offer(&Packet { source: 7, sequence, timestamp, payload: hex(payload) })
 }
 
-fn offer_hex(
-    session: &mut Session,
-    (sequence, timestamp, payload): (u16, u32, &str),
-) -> Result<u32, u8> {
-    offer(session, sequence, timestamp, hex(payload))
-}
-
-fn group(sequence: u16, l: u8, b: u8) -> Group {
-    Group { source: SOURCE, base: Base { sequence, timestamp: 0 }, l, b }
-}
-
-#[test]
-fn p13_base_numbers_wrap_around() {
-    let base = Base::of(0x0000, 0, 1, Slip::None);
-    assert_eq!(base, Base { sequence: 0xFFFF, timestamp: 0xFFFF_FF60 });
-    let base = Base::of(6, 1120, 7, Slip::None);
-    assert_eq!(base, Base { sequence: 0xFFFF, timestamp: 0 });
-}
-
-#[test]
-fn p15_distances_from_base_ffff() {
+/// What a session holds that heard one packet.
+fn heard(packet: Sent) -> Option<Holding> {
     let mut session = opened();
-    assert_eq!(offer_hex(&mut session, FIRST), Ok(0));
-    assert_eq!(offer_hex(&mut session, (0x0001, 0, "00 00")), Err(12));
-    assert_eq!(offer_hex(&mut session, (0x0000, 0, "00 00")), Err(11));
-    assert_eq!(offer_hex(&mut session, (0xFFFE, 0, "00 00")), Err(13));
+    assert_eq!(offer(&mut session, packet), Ok(0));
+    session.copy().ok()
+}
+
+#[test]
+fn p1_to_p10_payloads() {
+    assert_eq!(read(DEFAULT, FIRST.2), Ok((1, 0, vec![3, 5])));
+    let ten = format!("00 {} 01", ["81"; 10].join(" "));
+    let refused = [("", 1), ("0A", 2), ("30", 3), ("00 81", 4), ("00 02", 5), (&ten, 6)];
+    for (payload, answer) in refused.into_iter().chain([("00 01 11", 7), ("00 01 11 11 00", 8)]) {
+        assert_eq!(read(DEFAULT, payload), Err(answer), "{payload}");
+    }
+    assert_eq!(read(Limits { max_l: 6, ..DEFAULT }, "30"), Err(4));
+    assert_eq!(read(DEFAULT, "C0 00"), Ok((0, 0, vec![2])));
 }
 
 #[test]
 fn p11_the_whole_case() {
     for order in [[FIRST, SECOND], [SECOND, FIRST]] {
         let mut session = opened();
-        assert_eq!(order.map(|packet| offer_hex(&mut session, packet)), [Ok(0); 2]);
-        let poured = hex("01 11 11 01 22 22 01 33 33 01 44 44");
-        assert_eq!(session.pour(11, Slip::None), Err(15));
-        assert_eq!(session.pour(12, Slip::None), Ok(poured));
-        assert_eq!(session.pour(12, Slip::None), Err(21));
+        assert_eq!(order.map(|packet| offer(&mut session, packet)), [Ok(0); 2]);
+        assert_eq!(session.pour(11), Err(15));
+        assert_eq!(session.pour(12), Ok(hex(POURED)));
+        assert_eq!(session.pour(12), Err(21));
     }
+}
+
+#[test]
+fn p11_as_a_capture() {
+    let octets = hex(CAPTURE);
+    assert_eq!(capture::recorded(&octets), recording(POURED));
+    assert_eq!(capture::record(&octets, 18), Err(15));
+    assert_eq!(capture::record(&octets, 19).ok(), recording(POURED));
+    for cut in 0..octets.len() {
+        assert_eq!(capture::record(&octets[..cut], 0), Err(255), "cut to {cut}");
+    }
+    assert_eq!(capture::recorded(&[&octets[..], &[0]].concat()), None);
+    assert_eq!(capture::recorded(&[0, 0]), recording(""));
 }
 
 #[test]
 fn p12_the_second_packet_lost() {
+    let poured = "01 11 11 0E 01 33 33 0E";
+    assert_eq!(holding::pour(heard(FIRST).as_ref(), 200), Ok(hex(poured)));
+    let first = "00 01 00 00 00 07 FF FF FF FF FF 60 00 07 08 81 01 11 11 33 33";
+    assert_eq!(capture::recorded(&hex(first)), recording(poured));
+}
+
+#[test]
+fn p13_base_numbers_wrap_around() {
+    assert_eq!(Base::of(0, 0, 1), Base { sequence: 0xFFFF, timestamp: 0xFFFF_FF60 });
+    assert_eq!(Base::of(6, 1120, 7), Base { sequence: 0xFFFF, timestamp: 0 });
+}
+
+#[test]
+fn p14_header_free() {
+    let read = |length| payload::read(Form::HeaderFree, &vec![0xFF; length]);
+    let kind = |length| read(length).map(|read| read.frames[0].kind.number());
+    let answers = [22, 10, 2, 0, 5, 23].map(kind);
+    assert_eq!(answers, [Ok(4), Ok(3), Ok(1), Err(9), Err(9), Err(9)]);
+}
+
+#[test]
+fn p15_distances_from_base_ffff() {
     let mut session = opened();
-    assert_eq!(offer_hex(&mut session, FIRST), Ok(0));
-    assert_eq!(session.pour(200, Slip::None), Ok(hex("01 11 11 0E 01 33 33 0E")));
-}
-
-#[test]
-fn two_boxes_have_the_whole_case() {
-    let [a, b] = [FIRST, SECOND].map(|packet| {
-        let mut session = opened();
-        assert_eq!(offer_hex(&mut session, packet), Ok(0));
-        session.copy(Slip::None).expect("a packet is held")
-    });
-    let joined = joining::join(Some(&a), Some(&b), Slip::None);
-    assert_eq!(joined, joining::join(Some(&b), Some(&a), Slip::None));
-    let poured = holding::pour(joined.as_ref().ok(), 12, Slip::None);
-    assert_eq!(poured, Ok(hex("01 11 11 01 22 22 01 33 33 01 44 44")));
-    assert_eq!(joining::join(Some(&a), Some(&a), Slip::None), Ok(a.clone()));
-    assert_eq!(joining::join(Some(&a), None, Slip::None), Err(21));
-}
-
-#[test]
-fn edges_of_d() {
-    let rows = [(0, Ok(())), (1, Err(11)), (5, Err(11)), (6, Err(12)), (32_767, Err(12))];
-    for (d, answer) in rows.into_iter().chain([(32_768, Err(13)), (65_535, Err(13))]) {
-        assert_eq!(judge_d(d, 5, Slip::None), answer, "d = {d}");
-        for b in [0, 1, 0x7FFF, 0x8000, 0xFFFA, 0xFFFF_u16] {
-            let new = group(b.wrapping_add(d), 0, 1);
-            assert_eq!(group(b, 5, 1).d(new.base, Slip::None), d);
-        }
+    assert_eq!(offer(&mut session, FIRST), Ok(0));
+    for (sequence, answer) in [(0x0001, 12), (0x0000, 11), (0xFFFE, 13)] {
+        assert_eq!(offer(&mut session, (sequence, 0, "00 00")), Err(answer));
     }
-    assert_eq!(judge_d(1, 0, Slip::None), Err(12));
 }
 
+/// With a base b and an L of 5.
 #[test]
-fn edges_of_e() {
-    let rows = [(0, Ok(())), (100, Ok(())), (101, Err(16)), (32_767, Err(16))];
-    for (e, answer) in rows.into_iter().chain([(32_768, Err(13)), (65_535, Err(13))]) {
-        assert_eq!(judge_e(e, Slip::None), answer, "e = {e}");
-        for b in [0, 1, 0x7FFF, 0x8000, 0xFFFA, 0xFFFF_u16] {
-            let new = group(b.wrapping_add(6).wrapping_add(e), 0, 1);
-            assert_eq!(group(b, 5, 1).e(new.base, Slip::None), e);
-        }
+fn edges_of_d_and_e() {
+    let of_d = [(0, 0), (1, 11), (5, 11), (6, 12), (32_767, 12), (32_768, 13), (65_535, 13)];
+    let of_e = [(0, 0), (100, 0), (101, 16), (32_767, 16), (32_768, 13), (65_535, 13)];
+    for b in [0, 1, 0x7FFF, 0x8000, 0xFFFA, 0xFFFF_u16] {
+        let by_d = |far| judge_d(d(b.wrapping_add(far), b), 5).err().unwrap_or(0);
+        let by_e = |far| judge_e(e(b.wrapping_add(6).wrapping_add(far), b, 5)).err().unwrap_or(0);
+        of_d.iter().for_each(|&(far, answer)| assert_eq!(by_d(far), answer, "d = {far}"));
+        of_e.iter().for_each(|&(far, answer)| assert_eq!(by_e(far), answer, "e = {far}"));
     }
+    assert_eq!(judge_d(1, 0), Err(12));
 }
 
 #[test]
 fn lost_frames_count_by_the_poured_bundle() {
     for e in 0..=101 {
         let mut session = opened();
-        assert_eq!(offer_hex(&mut session, FIRST), Ok(0));
-        assert_eq!(session.pour(200, Slip::None).map(|octets| octets.len()), Ok(8));
+        assert_eq!(offer(&mut session, FIRST), Ok(0));
+        assert_eq!(session.pour(200).map(|octets| octets.len()), Ok(8));
         let lost = if e > 100 { Err(16) } else { Ok(2 * u32::from(e)) };
-        assert_eq!(offer_hex(&mut session, (0x0001 + e, 0, "00 80 80 00")), lost, "e = {e}");
+        assert_eq!(offer(&mut session, (0x0001 + e, 0, "00 80 80 00")), lost, "e = {e}");
     }
 }
 
-/// "Frame k of packet N stands at time place k x (L + 1) + N": in the greatest
-/// group, with the frame's time place as its body.
+#[test]
+fn two_boxes_have_the_whole_case() {
+    let (a, b) = (heard(FIRST), heard(SECOND));
+    let joined = holding::join(a.clone(), b.clone());
+    assert_eq!(joined, holding::join(b, a.clone()));
+    assert_eq!(holding::pour(joined.ok().as_ref(), 12), Ok(hex(POURED)));
+    assert_eq!(holding::join(a.clone(), a.clone()).ok(), a);
+    assert_eq!(holding::join(a, None), Err(21));
+}
+
+/// "Frame k of packet N stands at time place k x (L + 1) + N": in the greatest group, its place as its body.
 #[test]
 fn the_greatest_group_is_poured_in_time_order() {
     let mut session = opened();
     for n in [5, 0, 7, 3, 1, 6, 2, 4_u8] {
-        let mut payload = vec![7 << 3 | n, 0x84, 0x84, 0x84, 0x84, 0x84, 0x84, 0x84, 0x84, 0x84, 4];
+        let mut payload = [&[7 * 8 + n], &[0x84; 9][..], &[4]].concat();
         (0..10).for_each(|k| payload.extend([k * 8 + n; 22]));
         let sequence = 0xFFFC_u16.wrapping_add(n.into());
         let timestamp = 0xFFFF_FE00_u32.wrapping_add(160 * u32::from(n));
-        assert_eq!(offer(&mut session, sequence, timestamp, payload), Ok(0));
+        assert_eq!(session.offer(&Packet { source: 7, sequence, timestamp, payload }), Ok(0));
     }
     let entry = |place| [&[4][..], &[place; 22]].concat();
-    assert_eq!(session.pour(1839, Slip::None), Err(15));
-    assert_eq!(session.pour(1840, Slip::None), Ok((0..80).flat_map(entry).collect()));
-}
-
-/// The whole case as a capture.
-const WHOLE_CASE: &str = "00 02 00 00 00 07 FF FF FF FF FF 60 00 07 00 00 00 07 00 00 00 00 00 00 \
-                          00 07 08 81 01 11 11 33 33 09 81 01 22 22 44 44";
-
-/// What is recorded of a capture, behind the opening octets.
-fn recorded(capture: &[u8]) -> Option<Vec<u8>> {
-    let recording = capture::recorded(capture, Slip::None)?;
-    let entries = recording.strip_prefix(&hex("23 21 45 56 52 43 0A")[..]);
-    Some(entries.expect("a recording has its opening").to_vec())
+    assert_eq!(session.pour(1839), Err(15));
+    assert_eq!(session.pour(1840), Ok((0..80).flat_map(entry).collect()));
 }
 
 #[test]
-fn p11_as_a_capture() {
-    let whole_case = hex(WHOLE_CASE);
-    let poured = hex("01 11 11 01 22 22 01 33 33 01 44 44");
-    assert_eq!(recorded(&whole_case), Some(poured));
-    assert_eq!(capture::record(&whole_case, 18, Slip::None), Err(15));
-    assert_eq!(capture::record(&whole_case, 19, Slip::None).map(|octets| octets.len()), Ok(19));
-    for cut in 0..whole_case.len() {
-        assert_eq!(recorded(&whole_case[..cut]), None, "cut to {cut}");
-    }
-    assert_eq!(recorded(&[&whole_case[..], &[0]].concat()), None);
-    assert_eq!(capture::record(&whole_case[1..], 0, Slip::None), Err(255));
-}
-
-#[test]
-fn p12_as_a_capture() {
-    let first = "00 01 00 00 00 07 FF FF FF FF FF 60 00 07 08 81 01 11 11 33 33";
-    assert_eq!(recorded(&hex(first)), Some(hex("01 11 11 0E 01 33 33 0E")));
-}
-
-#[test]
-fn no_packet_gives_the_opening() {
-    assert_eq!(recorded(&hex("00 00")), Some(Vec::new()));
-    assert_eq!(capture::record(&hex("00 00"), 6, Slip::None), Err(15));
-    for bad in ["", "00", "00 00 00", "01 01", "FF FF"] {
-        assert_eq!(recorded(&hex(bad)), None, "{bad}");
-    }
+#[should_panic(expected = "no call lv_session_end with 1 scalars and 1 buffers")]
+fn another_shape_is_no_call() {
+    make(&Call { name: "lv_session_end", scalars: vec![0], buffers: vec![Vec::new()] });
 }

@@ -1,6 +1,6 @@
 -- A capture's table. Assumes nothing.
 use Prim.Native.Nat.{ℕ, zero, suc, _+_, _*_, _≤_, _<_}
-use mathlib.Core.Bool.{Bool, true, false, _&&_}
+use mathlib.Core.Bool.{Bool, true, false, cond, _&&_}
 use mathlib.Core.Path.{_≡_, refl, sym, ap, ap₂, _∙_}
 use mathlib.Core.List.{List}
 use mathlib.Core.Logic.{⊎-elim}
@@ -9,10 +9,12 @@ use native.Mathlib.Numerals.{add-one}
 use native.Mathlib.Omega.{arith}
 use lib.ListN.{length}
 use lib.Dec.{eqb, leb}
-use borrow.Author.Tests.{ne-eqb, eqb-true, le-leb, lt-leb, leb-true}
+use borrow.Author.Tests.{eq-eqb, ne-eqb, eqb-true, le-leb, lt-leb, leb-true, leb-false}
 use Rattle.octets.specs.Octets.{twoAt}
 use Rattle.octets.proofs.Logic.{both-true}
-use Rattle.capture.specs.Table.{countOf, lengthAt, lengths, startAt, good}
+use Rattle.capture.specs.Table.{countOf, lengthAt, lengths, startAt, ending, tableFault, countFault, faultOf, isNone, good}
+use Rattle.capture.specs.declared.Fault.{Fault}
+use Rattle.capture.specs.declared.Fault.the-variants.{None, TooLong, NoCount, TooManyPackets, TableCut, PayloadsCut, OctetsLeft}
 
 -- ---- the octets of the first payloads
 pub lengths-none : (c : List ℕ) → 0 ≡ lengths c 0
@@ -29,39 +31,86 @@ lengths-grow c i zero h = absurd (omega arith)
 lengths-grow c i (suc n) h =
     ⊎-elim (λ (q : i ≡ n). rw q (le-refl _)) (λ (q : i < n). omega (arith, lengths-grow c i n q)) (eq-or-lt-of-le (le-of-suc-le-suc h))
 
--- ---- which octets are a capture
+-- ---- why octets are no capture: a law for each way out, nested as the tests are
 module _ (c : List ℕ) where
-  pub too-long : 65536 < length c → false ≡ good c
-  unfolding good
+  pub too-long : 65536 < length c → TooLong ≡ faultOf c
+  unfolding faultOf countFault tableFault
   too-long h = simp (lt-leb _ _ h)
 
-  -- a capture that ends before its payloads do
-  ends-early : length c < startAt c (countOf c) → false ≡ good c
-  unfolding good
-  ends-early h = go (leb (length c) 65536) (leb (countOf c) 256) (ne-eqb _ _ (λ (e : startAt c (countOf c) ≡ length c). absurd (omega arith)))
-    where
-      go : (s t : Bool) → eqb (startAt c (countOf c)) (length c) ≡ false → false ≡ (s && t && eqb (startAt c (countOf c)) (length c))
-      go true true e = sym e
-      go true false e = refl
-      go false t e = refl
+  module _ (short : length c ≤ 65536) where
+    pub no-count : length c < 2 → NoCount ≡ faultOf c
+    unfolding faultOf countFault tableFault
+    no-count h = simp (le-leb _ _ short, lt-leb _ _ h)
 
-  pub no-count : length c < 2 → false ≡ good c
-  unfolding startAt
-  no-count h = ends-early (omega arith)
+    module _ (two : 2 ≤ length c) (n : ℕ) (e : n ≡ countOf c) where
+      pub too-many : 256 < n → TooManyPackets n ≡ faultOf c
+      unfolding faultOf countFault tableFault
+      too-many h = let k : 256 < countOf c = omega arith in simp (le-leb _ _ short, le-leb _ _ two, lt-leb _ _ k) (ap TooManyPackets e)
 
-  pub too-many : (n : ℕ) → n ≡ countOf c → length c ≤ 65536 → 256 < n → false ≡ good c
-  unfolding good
-  too-many n e l h = let k : 256 < countOf c = omega arith in simp (le-leb _ _ l, lt-leb _ _ k)
+      module _ (few : n ≤ 256) where
+        pub table-cut : length c < 2 + 12 * n → TableCut (2 + 12 * n) ≡ faultOf c
+        unfolding faultOf countFault tableFault
+        table-cut h =
+            let k : countOf c ≤ 256 = omega arith in
+            let l : length c < 2 + 12 * countOf c = omega arith in
+            simp (le-leb _ _ short, le-leb _ _ two, le-leb _ _ k, lt-leb _ _ l) (ap (λ (i : ℕ). TableCut (2 + 12 * i)) e)
 
-  pub table-cut : (n : ℕ) → n ≡ countOf c → length c < 2 + 12 * n → false ≡ good c
-  unfolding startAt
-  table-cut n e h = ends-early (omega arith)
+        -- behind a whole table the end decides
+        pub by-end : (total : ℕ) → total ≡ lengths c n → 2 + 12 * n ≤ length c → ending (2 + 12 * n + total) (length c) ≡ faultOf c
+        unfolding faultOf countFault tableFault startAt
+        by-end total f h =
+            let k : countOf c ≤ 256 = omega arith in
+            let l : 2 + 12 * countOf c ≤ length c = omega arith in
+            simp (le-leb _ _ short, le-leb _ _ two, le-leb _ _ k, le-leb _ _ l)
+            (ap₂ (λ (i j : ℕ). ending (2 + 12 * i + j) (length c)) e (f ∙ ap (lengths c) e))
 
-  pub by-end : (n total : ℕ) → n ≡ countOf c → total ≡ lengths c n → length c ≤ 65536 → n ≤ 256 → eqb (2 + 12 * n + total) (length c) ≡ good c
-  unfolding good startAt
-  by-end n total e f l h =
-      let k : countOf c ≤ 256 = omega arith in
-      simp (le-leb _ _ l, le-leb _ _ k) (ap₂ (λ (i j : ℕ). eqb (2 + 12 * i + j) (length c)) e (f ∙ ap (lengths c) e))
+pub ends-late : (end n : ℕ) → n < end → PayloadsCut end ≡ ending end n
+unfolding ending
+ends-late end n h = simp (ne-eqb end n (λ (e : end ≡ n). absurd (omega arith)), lt-leb _ _ h)
+
+pub ends-early : (end n : ℕ) → end < n → OctetsLeft end ≡ ending end n
+unfolding ending
+ends-early end n h = let k : end ≤ n = omega arith in simp (ne-eqb end n (λ (e : end ≡ n). absurd (omega arith)), le-leb _ _ k)
+
+pub ends-there : (end n : ℕ) → end ≤ n → n ≤ end → None ≡ ending end n
+unfolding ending
+ends-there end n h k = let e : end ≡ n = omega arith in simp (eq-eqb _ _ e)
+
+-- what ends where its octets end has no fault, and nothing else
+ending-none : (end n : ℕ) → isNone (ending end n) ≡ eqb end n
+unfolding ending
+ending-none end n = go (eqb end n) (leb end n)
+  where
+    go : (s t : Bool) → isNone (cond s None (cond t (OctetsLeft end) (PayloadsCut end))) ≡ s
+    go true t = refl
+    go false true = refl
+    go false false = refl
+
+-- what ends before its table does, does not end where its payloads end
+not-there : (c : List ℕ) → length c < 2 + 12 * countOf c → eqb (startAt c (countOf c)) (length c) ≡ false
+unfolding startAt
+not-there c h = ne-eqb (startAt c (countOf c)) (length c) (λ (e : startAt c (countOf c) ≡ length c). absurd (omega arith))
+
+-- a capture is good exactly if nothing is wrong with it
+pub good-if-none : (c : List ℕ) → isNone (faultOf c) ≡ good c
+unfolding faultOf countFault tableFault good
+good-if-none c =
+    go (leb (length c) 65536) (leb 2 (length c)) (leb (countOf c) 256) (leb (2 + 12 * countOf c) (length c))
+    (λ e. let h : length c < 2 = leb-false _ _ e in not-there c (omega arith)) (λ e. not-there c (leb-false _ _ e))
+  where
+    go : (s w m t : Bool) → (w ≡ false → eqb (startAt c (countOf c)) (length c) ≡ false) →
+        (t ≡ false → eqb (startAt c (countOf c)) (length c) ≡ false) →
+        isNone (cond s (cond w (cond m (cond t (ending (startAt c (countOf c)) (length c)) (TableCut (2 + 12 * countOf c))) (TooManyPackets (countOf c))) NoCount) TooLong)
+        ≡ (s && m && eqb (startAt c (countOf c)) (length c))
+    go false w m t h k = refl
+    go true false false t h k = refl
+    go true false true t h k = sym (h refl)
+    go true true false t h k = refl
+    go true true true false h k = sym (k refl)
+    go true true true true h k = ending-none _ _
+
+pub good-by : (c : List ℕ) (found known : Fault) → found ≡ faultOf c → found ≡ known → isNone known ≡ good c
+good-by c found known e k = ap isNone (sym k ∙ e) ∙ good-if-none c
 
 -- a capture that is good
 pub record Good (c : List ℕ) : Type 0 where

@@ -1,11 +1,13 @@
 -- Document 01, "Capture program": a capture's count, its table and its payloads.
 use Prim.Native.Nat.{ℕ, zero, suc, _+_, _*_}
-use mathlib.Core.Bool.{Bool, _&&_}
+use mathlib.Core.Bool.{Bool, true, false, cond, _&&_}
 use mathlib.Core.List.{List}
 use lib.ListN.{length, take, drop}
 use lib.Dec.{eqb, leb}
 use Rattle.octets.specs.Octets.{twoAt, fourAt}
 use Rattle.frame.specs.Places.{upTo}
+use Rattle.capture.specs.declared.Fault.{Fault}
+use Rattle.capture.specs.declared.Fault.the-variants.{None, TooLong, NoCount, TooManyPackets, TableCut, PayloadsCut, OctetsLeft}
 
 -- "A box hands us source number (32 bits), sequence number (16 bits), timestamp (32 bits) and payload"
 pub record Heard : Type 0 where
@@ -44,6 +46,32 @@ heardAt c i =
 -- the packets of a capture, in order
 unfoldable pub packetsIn : List ℕ → List Heard
 packetsIn c = upTo (heardAt c) (countOf c)
+
+-- "then all payloads in table order, nothing after": n octets end where the last payload does, or are cut, or left over
+unfoldable pub ending : ℕ → ℕ → Fault
+ending end n = cond (eqb end n) None (cond (leb end n) (OctetsLeft end) (PayloadsCut end))
+
+-- "then its table, per packet source (4), sequence (2), timestamp (4), length (2)"
+unfoldable pub tableFault : List ℕ → Fault
+tableFault c = cond (leb (2 + 12 * countOf c) (length c)) (ending (startAt c (countOf c)) (length c)) (TableCut (2 + 12 * countOf c))
+
+-- "count (2, at most 256)"
+unfoldable pub countFault : List ℕ → Fault
+countFault c = cond (leb 2 (length c)) (cond (leb (countOf c) 256) (tableFault c) (TooManyPackets (countOf c))) NoCount
+
+-- why octets are no capture, the first reason: "A capture is at most 65,536 octets, big-endian", and so on
+unfoldable pub faultOf : List ℕ → Fault
+faultOf c = cond (leb (length c) 65536) (countFault c) TooLong
+
+-- whether there is no fault
+abbrev pub isNone : Fault → Bool
+isNone None = true
+isNone TooLong = false
+isNone NoCount = false
+isNone (TooManyPackets n) = false
+isNone (TableCut n) = false
+isNone (PayloadsCut n) = false
+isNone (OctetsLeft n) = false
 
 -- "A capture is at most 65,536 octets": at most 256 packets, and the last payload ends where the capture ends, "nothing after"
 -- (octets that are not there read as 0, and a table that is cut ends behind the capture)

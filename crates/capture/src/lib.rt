@@ -13,7 +13,7 @@ ghost use lib.ListN.{length, replicate};
 ghost use lib.Dec.{leb};
 ghost use Rattle.frame.specs.Table.{evrc, erasure};
 ghost use Rattle.recording.specs.Recording.{evrcOpening};
-ghost use Rattle.capture.specs.Table.{countOf, lengthAt, lengths, startAt, heardAt, packetsIn, good};
+ghost use Rattle.capture.specs.Table.{countOf, lengthAt, lengths, startAt, heardAt, packetsIn, faultOf, good};
 ghost use Rattle.capture.specs.Run.{firstSession, offeredTo, lostIn, largest, takenOf, isTwelve, pouring, stepOf, runOf, recordingOf, Put, Does, recorded, outputOf};
 
 // The most octets that the recording of a capture can have.
@@ -55,25 +55,66 @@ fn payload_octets(capture: &[u8], n: usize) -> usize
     total
 }
 
+// Why octets are no capture, in the order that it is judged; each case carries what a person needs to see it.
+pub enum Fault {
+    // They are one.
+    None,
+    // More than 65,536 octets.
+    TooLong,
+    // Not the two octets of a count.
+    NoCount,
+    // This count, over 256.
+    TooManyPackets(usize),
+    // The table needs so many octets, and there are fewer.
+    TableCut(usize),
+    // The table and the payloads need so many octets, and there are fewer.
+    PayloadsCut(usize),
+    // The last payload ends here, and octets are left over.
+    OctetsLeft(usize),
+}
+
+// Why these octets are no capture, or that they are one.
+pub fn judge(capture: &[u8]) -> Fault
+    ensures { λ r. ⌜ r ≡ faultOf (now (capture .entry)) ⌝ }
+{
+    if 65536 < capture.len() {
+        return Fault::TooLong;
+    }
+    if capture.len() < 2 {
+        return Fault::NoCount;
+    }
+    let count = octets::two(capture, 0) as usize;
+    if 256 < count {
+        return Fault::TooManyPackets(count);
+    }
+    let table = 2 + 12 * count;
+    if capture.len() < table {
+        return Fault::TableCut(table);
+    }
+    let end = table + payload_octets(capture, count);
+    if capture.len() < end {
+        return Fault::PayloadsCut(end);
+    }
+    if end < capture.len() {
+        return Fault::OctetsLeft(end);
+    }
+    Fault::None
+}
+
 // Whether these octets are a capture.
 fn is_good(capture: &[u8]) -> bool
     ensures { λ r. ⌜ r ≡ good (now (capture .entry)) ⌝ }
 {
-    if 65536 < capture.len() {
-        return false;
+    let found = judge(capture);
+    match found {
+        Fault::None => true,
+        Fault::TooLong => false,
+        Fault::NoCount => false,
+        Fault::TooManyPackets(_) => false,
+        Fault::TableCut(_) => false,
+        Fault::PayloadsCut(_) => false,
+        Fault::OctetsLeft(_) => false,
     }
-    if capture.len() < 2 {
-        return false;
-    }
-    let count = octets::two(capture, 0) as usize;
-    if 256 < count {
-        return false;
-    }
-    let table = 2 + 12 * count;
-    if capture.len() < table {
-        return false;
-    }
-    table + payload_octets(capture, count) == capture.len()
 }
 
 // Packet i, whose payload begins at start, offered to a session.

@@ -16,3 +16,4 @@ pub mod LentClaims
 pub mod Marked
 pub mod IdleClaims
 pub mod Outcomes
+pub mod Main

@@ -59,6 +59,7 @@ determined = record {
   sessionCopyOut = λ κs a x y s t p q. p ∙ sym q;
   sessionEnd = λ κs a x y s t p q. p ∙ sym q;
   captureRoom = λ κs a x y s t p q. p ∙ sym q;
+  captureJudge = λ κs a x y s t p q. p ∙ sym q;
   captureRecord = λ κs a x y s t p q. cc (p .0, p .1, q .0, q .1);
   lendingOpen = λ κs a x y s t p q. cc (p .0, p .1, q .0, q .1);
   lendingOffer = λ κs a x y s t p q. cc (p .0, p .1, q .0, q .1);

@@ -12,7 +12,7 @@ use Rattle.packet.specs.Packet.{placeOf}
 use Rattle.recording.specs.Entries.{entriesOf}
 use Rattle.recording.specs.Entries as entries
 use Rattle.recording.specs.Recording.{evrcOpening, recorded}
-use Rattle.capture.specs.Table.{Heard, countOf, packetsIn, good}
+use Rattle.capture.specs.Table.{Heard, countOf, packetsIn, faultOf, isNone, good}
 use Rattle.capture.specs.Run.{captureForm, recordedOf, recordingOf, largest}
 use Rattle.claims.specs.Packets.{narrow}
 use Rattle.claims.specs.Joinings.{HasRoom}
@@ -72,3 +72,7 @@ NoPacketGivesOpening = (v : Vocoder) (opening c : List ℕ) → countOf c ≡ 0 
 -- no recording of a capture is larger than the room that the program has for it
 unfoldable pub NothingIsLarger : Type 0
 NothingIsLarger = (c : List ℕ) → good c ≡ true → length (recordingOf evrc evrcOpening c) ≤ largest
+
+-- a capture is bad exactly if `capture::judge` finds why: the reason told to a person is never beside the point
+unfoldable pub FaultExactlyIfBad : Type 0
+FaultExactlyIfBad = (c : List ℕ) → isNone (faultOf c) ≡ good c

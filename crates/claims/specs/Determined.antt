@@ -121,6 +121,8 @@ use Rattle.session.proofs.end.Kinds as session-end-kinds
 use Rattle.session.proofs.end.Reads as session-end
 use Rattle.capture.proofs.room.Kinds as capture-room-kinds
 use Rattle.capture.proofs.room.Reads as capture-room
+use Rattle.capture.proofs.judge.Kinds as capture-judge-kinds
+use Rattle.capture.proofs.judge.Reads as capture-judge
 use Rattle.capture.proofs.record.Kinds as capture-record-kinds
 use Rattle.capture.proofs.record.Reads as capture-record
 use Rattle.lending.proofs.open.Kinds as lending-open-kinds
@@ -237,6 +239,7 @@ pub record Determined : Type 0 where
   pub sessionCopyOut : AnswerFixed 0 session-copy-out-kinds.ps session-copy-out-kinds.r session-copy-out.Post
   pub sessionEnd : AnswerFixed 0 session-end-kinds.ps session-end-kinds.r session-end.Post
   pub captureRoom : AnswerFixed 0 capture-room-kinds.ps capture-room-kinds.r capture-room.Post
+  pub captureJudge : AnswerFixed 1 capture-judge-kinds.ps capture-judge-kinds.r capture-judge.Post
   pub captureRecord : OutcomeFixed 2 capture-record-kinds.ps capture-record-kinds.r capture-record.Post (Outcome × List ℕ) (λ κs x s. (x, now (s .1 .0)))
   pub lendingOpen : OutcomeFixed 1 lending-open-kinds.ps lending-open-kinds.r lending-open.Post (Answer × List ℕ) (λ κs x s. (x, now (s .0)))
   pub lendingOffer : OutcomeFixed 2 lending-offer-kinds.ps lending-offer-kinds.r lending-offer.Post (Taken × List ℕ) (λ κs x s. (x, now (s .0)))

@@ -1,3 +1,4 @@
+pub mod Main
 pub mod Demand1
 pub mod Packets
 pub mod Payloads

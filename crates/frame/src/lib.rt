@@ -142,6 +142,7 @@ pub enum Refusal {
 }
 
 impl Refusal {
+    // The number that document 01 gives the refusal.
     pub fn number(self) -> u8
         ensures { λ r. ⌜ r ≡ numberOf self ⌝ }
     {

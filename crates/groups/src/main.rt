@@ -45,6 +45,8 @@ fn round(a: Holding, b: Holding, out: &mut [u8]) -> usize {
     }
 }
 
+// Joins two halves of a group and pours the outcome once for each octet of the input, which stands in a body; tells the octets
+// poured in all, and writes the last ones.
 fn main() {
     let mut out = [0u8; 1840];
     let mut a = half(0);

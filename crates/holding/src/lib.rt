@@ -51,12 +51,14 @@ pub fn base_timestamp(timestamp: u32, n: u8) -> u32
     std::num::wrapping_sub_u32(timestamp, 160 * (n as u32))
 }
 
+// The types of a group of which nothing is held: erasures.
 fn no_marks() -> [u8; 80]
     ensures { λ r. ⌜ r ≡ nothing .marks ⌝ }
 {
     [14u8; 80]
 }
 
+// The room of a group of which nothing is held: zeros.
 fn no_room() -> [u8; 1760]
     ensures { λ r. ⌜ r ≡ nothing .room ⌝ }
 {

@@ -117,6 +117,7 @@ fn take_all(a: Holding, b: Holding) -> Holding
     }
 }
 
+// A refused joining: it carries a holding of nothing.
 fn refuse(reason: Refusal) -> Joined
     ensures { λ r. ⌜ r ≡ refusedJoin reason ⌝ }
 {

@@ -46,6 +46,7 @@ pub enum Named {
     Refused(Refusal),
 }
 
+// The agreed form that a host's numbers name, or none: 21.
 fn form_named(form: u8, max_l: u8, max_b: u8) -> Named
     ensures { λ r. ⌜ r ≡ namedForm form «max_l» «max_b» ⌝ }
 {
@@ -56,6 +57,7 @@ fn form_named(form: u8, max_l: u8, max_b: u8) -> Named
     }
 }
 
+// A payload read in the form that is named; 21 if none is.
 fn read_named(form: u8, max_l: u8, max_b: u8, payload: &[u8]) -> Contents
     ensures { λ r. ⌜ r ≡ contentsOf (readNamed evrc (namedForm form «max_l» «max_b») (now (payload .entry))) ⌝ }
 {
@@ -66,6 +68,7 @@ fn read_named(form: u8, max_l: u8, max_b: u8, payload: &[u8]) -> Contents
     }
 }
 
+// Frame k of a payload in the form that is named; 21 if none is.
 fn locate_named(form: u8, max_l: u8, max_b: u8, payload: &[u8], k: usize) -> Located
     ensures { λ r. ⌜ r ≡ locatedOf (givenNamed evrc (namedForm form «max_l» «max_b») (now (payload .entry))) k ⌝ }
 {
@@ -199,6 +202,7 @@ pub extern "C" fn lv_recording_write(entries: &[u8], out: &mut [u8], written: &m
     tell_written(recording::write(entries, out), written)
 }
 
+// Packet N written in the form that is named; 21 if none is.
 fn packet_named(
     form: u8,
     max_l: u8,
@@ -241,6 +245,7 @@ pub extern "C" fn lv_packet_write(
     )
 }
 
+// A header-free packet written in the form that is named; 21 if none is.
 fn header_free_named(form: u8, max_l: u8, max_b: u8, entries: &[u8], out: &mut [u8]) -> Written
     ensures { λ r. ⌜ Writes (headerFreeNamed evrc (namedForm form «max_l» «max_b») (now (entries .entry))) (now (out .entry)) r (now (out .exit)) ⌝ }
 {
@@ -266,6 +271,7 @@ pub extern "C" fn lv_packet_write_header_free(
     tell_written(header_free_named(form, max_l, max_b, entries, out), written)
 }
 
+// What became of a capture, as a number: 0 and the octets written, the number of a refusal, or 255.
 fn tell_recorded(outcome: Outcome, written: &mut usize) -> u8
     ensures { λ r. ⌜ countTold r (now (written .exit)) ≡ outcomeAfter outcome (now (written .entry)) ⌝ }
 {
@@ -285,6 +291,7 @@ pub extern "C" fn lv_capture_record(capture: &[u8], out: &mut [u8], written: &mu
 
 // ---- sessions and holdings, in octets that the host lends
 
+// An answer as a number: 0, or the number of the refusal.
 fn tell(answer: Answer) -> u8
     ensures { λ r. ⌜ r ≡ answerNumber answer ⌝ }
 {
@@ -294,6 +301,7 @@ fn tell(answer: Answer) -> u8
     }
 }
 
+// The answer to an offer as a number: 0 and the lost frames, or the number of the refusal.
 fn tell_taken(answer: Taken, lost: &mut usize) -> u8
     ensures { λ r. ⌜ countTold r (now (lost .exit)) ≡ takenAfter answer (now (lost .entry)) ⌝ }
 {
@@ -306,6 +314,7 @@ fn tell_taken(answer: Taken, lost: &mut usize) -> u8
     }
 }
 
+// A lent session opened in the form that is named: 15 for too few octets, then 21 for no form.
 fn open_named(source: u32, form: u8, max_l: u8, max_b: u8, session: &mut [u8]) -> Answer
     ensures { λ r. ⌜ (r ≡ openNamed (namedForm form «max_l» «max_b») source (now (session .entry))) × (now (session .exit) ≡ openedNamed (namedForm form «max_l» «max_b») source (now (session .entry))) ⌝ }
 {

@@ -22,6 +22,7 @@ ghost use Rattle.lending.specs.Calls.{openAnswer, openOctets, offerAnswe
 // The octets of a session, and of a holding.
 pub const OCTETS: usize = 2048;
 
+// A flag as an octet: 1 or 0.
 fn flag(set: bool) -> u8
     ensures { λ r. ⌜ r ≡ flagOctet set ⌝ }
 {
@@ -31,6 +32,7 @@ fn flag(set: bool) -> u8
     0
 }
 
+// Lays a flag out.
 fn put_flag(out: &mut [u8], at: usize, set: bool)
     requires { ⌜ at + 1 ≤ length (now out) ⌝ }
     ensures { λ _. ⌜ now (out .exit) ≡ over (now (out .entry)) at (flagOctet set ∷ []) ⌝ }
@@ -38,6 +40,7 @@ fn put_flag(out: &mut [u8], at: usize, set: bool)
     out[at] = flag(set);
 }
 
+// Lays two octets out, one behind the other.
 fn put_pair(out: &mut [u8], at: usize, x: u8, y: u8)
     requires { ⌜ at + 2 ≤ length (now out) ⌝ }
     ensures { λ _. ⌜ now (out .exit) ≡ over (now (out .entry)) at (x ∷ y ∷ []) ⌝ }
@@ -122,6 +125,7 @@ fn flags_at(lent: &[u8], at: usize) -> [bool; 8]
     flags
 }
 
+// The types that lie from a place on: each octet and 14, modulo 256.
 fn marks_at(lent: &[u8], at: usize) -> [u8; 80]
     requires { ⌜ at + 80 ≤ length (now lent) ⌝ }
     ensures { λ r. ⌜ r ≡ map (shifted 14) (take 80 (drop at (now (lent .entry)))) ⌝ }
@@ -131,6 +135,7 @@ fn marks_at(lent: &[u8], at: usize) -> [u8; 80]
     marks
 }
 
+// The bodies that lie from a place on.
 fn room_at(lent: &[u8], at: usize) -> [u8; 1760]
     requires { ⌜ at + 1760 ≤ length (now lent) ⌝ }
     ensures { λ r. ⌜ r ≡ take 1760 (drop at (now (lent .entry))) ⌝ }

@@ -89,6 +89,7 @@ pub fn any(s: &[bool]) -> bool
     false
 }
 
+// The number of two octets, the high one first.
 fn pair(high: u8, low: u8) -> u16
     ensures { λ r. ⌜ r ≡ high * 256 + low ⌝ }
 {

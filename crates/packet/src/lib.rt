@@ -133,6 +133,7 @@ fn write_within(
     write_group(l, n, b, d, entries, out)
 }
 
+// Packet N of a group under limits: 21 for limits out of range, 2, 3, 6; then the entries are judged and packed.
 fn write_interleaved(
     limits: Limits,
     l: u8,

@@ -150,6 +150,7 @@ fn body_start(payload: &[u8], b: u8, k: usize) -> usize
     start
 }
 
+// Frame k of a type 1 payload.
 fn locate_interleaved(limits: Limits, payload: &[u8], k: usize) -> Located
     ensures { λ r. ⌜ r ≡ locatedOf (givenAs evrc (Interleaved limits) (now (payload .entry))) k ⌝ }
 {
@@ -175,6 +176,7 @@ fn locate_interleaved(limits: Limits, payload: &[u8], k: usize) -> Located
     }
 }
 
+// Frame k of a header-free payload: it has one.
 fn locate_header_free(payload: &[u8], k: usize) -> Located
     ensures { λ r. ⌜ r ≡ locatedOf (givenAs evrc HeaderFree (now (payload .entry))) k ⌝ }
 {

@@ -32,6 +32,7 @@ pub enum Rule {
     HeaderFree,
 }
 
+// Whether a rule allows a frame: any; those that may be sent; those of them that have a body.
 fn allows(rule: Rule, kind: u8, body: &[u8]) -> bool
     ensures { λ r. ⌜ r ≡ allowed evrc rule (record { type = kind; body = now (body .entry) }) ⌝ }
 {

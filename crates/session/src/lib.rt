@@ -172,6 +172,7 @@ pub fn is_open(session: Session) -> bool
     false
 }
 
+// A refused offer: the session is as it was.
 fn refused(session: Session, reason: Refusal) -> Offered
     ensures { λ r. ⌜ r ≡ refuse session reason ⌝ }
 {
@@ -181,6 +182,7 @@ fn refused(session: Session, reason: Refusal) -> Offered
     }
 }
 
+// An accepted offer: the session after it, and the lost frames before it.
 fn accepted(session: Session, lost: usize) -> Offered
     ensures { λ r. ⌜ r ≡ accept session lost ⌝ }
 {
@@ -287,6 +289,7 @@ fn place_alone(session: Session, arrival: Arrival) -> Offered
     begin_group(session, arrival, 0)
 }
 
+// The place of a packet that was read: with a group held, with one poured before, or with none before.
 fn place(session: Session, arrival: Arrival) -> Offered
     requires { ⌜ arrival .n < 8 ⌝ }
     ensures { λ r. ⌜ r ≡ placed session arrival ⌝ }
@@ -383,6 +386,7 @@ pub fn pour(session: Session, out: &mut [u8]) -> Poured
     }
 }
 
+// A refused copy: it carries a holding of nothing.
 fn no_copy() -> Copied
     ensures { λ r. ⌜ r ≡ noCopy ⌝ }
 {

@@ -1,54 +1,70 @@
 -- `capture::is_good` meets its contract.
 use borrow.Author.Needs.{needs}
-use Rattle.capture.proofs.TableLaws.{too-long, no-count, too-many, table-cut, by-end}
+use Rattle.capture.proofs.TableLaws.{good-by}
 use Rattle.capture.proofs.is_good.Statement.{statement}
 use Rattle.capture.proofs.is_good.Tie as tie
 
+judge-requires : tie.Need-judge-requires
+judge-requires c κs = search needs
+
+enum-told : tie.Need-enum-told
+enum-told c = search needs
+
+enum-told-2 : tie.Need-enum-told-2
+enum-told-2 c = search needs
+
+enum-told-3 : tie.Need-enum-told-3
+enum-told-3 c = search needs
+
+enum-told-4 : tie.Need-enum-told-4
+enum-told-4 c = search needs
+
+enum-told-5 : tie.Need-enum-told-5
+enum-told-5 c = search needs
+
+enum-told-6 : tie.Need-enum-told-6
+enum-told-6 c = search needs
+
+enum-told-7 : tie.Need-enum-told-7
+enum-told-7 c = search needs
+
 returns : tie.Need-returns
-returns c = too-long _ (c .if1 .taken)
+returns c = good-by _ _ _ (c .before .before .judge .ensures) (c .enum-told .given .1)
 
 returns-2 : tie.Need-returns-2
-returns-2 c = no-count _ (c .if2 .taken)
-
-two-requires : tie.Need-two-requires
-two-requires c κs = search needs
-
-cast-count : tie.Need-cast-count
-cast-count c = search needs
+returns-2 c = good-by _ _ _ (c .before .before .judge .ensures) (c .enum-told2 .given .1)
 
 returns-3 : tie.Need-returns-3
-returns-3 c = too-many _ _ (c .before .two .ensures) (c .before .before .before .if1 .left) (c .if3 .taken)
-
-mul-table : tie.Need-mul-table
-mul-table c = search needs
-
-add-table : tie.Need-add-table
-add-table c = search needs
+returns-3 c = good-by _ _ _ (c .before .before .judge .ensures) (c .enum-told3 .given .1)
 
 returns-4 : tie.Need-returns-4
-returns-4 c = table-cut _ _ (c .before .before .two .ensures) (c .if4 .taken)
-
-payload-octets-requires : tie.Need-payload-octets-requires
-payload-octets-requires c κs = search needs
-
-add-result : tie.Need-add-result
-add-result c = search needs
+returns-4 c = good-by _ _ _ (c .before .before .judge .ensures) (c .enum-told4 .given .1)
 
 returns-5 : tie.Need-returns-5
-returns-5 c = by-end _ _ _ (c .before .before .before .two .ensures) (c .payload-octets .ensures .0) (c .before .before .before .before .before .if1 .left) (c .before .before .if3 .left)
+returns-5 c = good-by _ _ _ (c .before .before .judge .ensures) (c .enum-told5 .given .1)
+
+returns-6 : tie.Need-returns-6
+returns-6 c = good-by _ _ _ (c .before .before .judge .ensures) (c .enum-told6 .given .1)
+
+returns-7 : tie.Need-returns-7
+returns-7 c = good-by _ _ _ (c .before .before .judge .ensures) (c .enum-told7 .given .1)
 
 pub is-good-spec : {M : Type 1} → statement M
 is-good-spec =
     tie.close
     (tie.spec
+    judge-requires
+    enum-told
+    enum-told-2
+    enum-told-3
+    enum-told-4
+    enum-told-5
+    enum-told-6
+    enum-told-7
     returns
     returns-2
-    two-requires
-    cast-count
     returns-3
-    mul-table
-    add-table
     returns-4
-    payload-octets-requires
-    add-result
-    returns-5)
+    returns-5
+    returns-6
+    returns-7)

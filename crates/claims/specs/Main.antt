@@ -1,0 +1,100 @@
+-- The face of the house: all that it promises, in one record. Each field is a claim of a page beside this one, in the order's own
+-- order; proofs/Main.antt has its one value. A claim that is no field here, and no part of one, is refused by the gate (tools/claims).
+use Rattle.claims.specs.Demand1.{Demand1}
+use Rattle.claims.specs.Payloads.{RRIgnored, RefusalsPartEmpty}
+use Rattle.claims.specs.Sessions.{RefusedOfferChangesNothing, AnotherSourceIs10, AnotherSourcesWordsAreNotHeard}
+use Rattle.claims.specs.Sessions.{OpeningForgets, EndingForgets, EndedTakesNothing, FirstPacketBeginsAlone}
+use Rattle.claims.specs.Sessions.{RepeatChangesNothing, LostFramesByFormula, OctetCountByFormula}
+use Rattle.claims.specs.Lent.{ZeroIsNeverOpened, NoSessionTakesNothing, NoHoldingHoldsNothing}
+use Rattle.claims.specs.Lent.{HoldingReadsBack, SessionReadsBack, EqualKnowledgeEqualOctets}
+use Rattle.claims.specs.Packets.{PacketReadAfterWrite, PacketWriteAfterRead, EvrcPasses}
+use Rattle.claims.specs.Packets.{HeaderFreeReadAfterWrite, HeaderFreeWriteAfterRead}
+use Rattle.claims.specs.Recordings.{RecordingReadAfterWrite, RecordingWriteAfterRead, RecordingSameOctets, OpeningAlone}
+use Rattle.claims.specs.Demand3.{Demand3}
+use Rattle.claims.specs.Sending.{WriterSends, HeaderFreeWriterSends, WriterSendsNoErasure, EvrcNeverSendsErasures}
+use Rattle.claims.specs.Missing.{OneMissingPacket}
+use Rattle.claims.specs.Boxes.{CopiedOut, BoxesJoin}
+use Rattle.claims.specs.Joinings.{EveryOrderAndGrouping, EveryPermutation, WithItself, DifferenceEndsIn14, ElseTheyJoin}
+use Rattle.claims.specs.Joinings.{NothingLost, NothingInvented, EqualKnowledge, EveryPlaceInTime, EvrcHasRoom}
+use Rattle.claims.specs.Captures.{GroupIsRecorded, FirstSourceAlone, OthersAreNotHeard, GivesARecording}
+use Rattle.claims.specs.Captures.{NoPacketGivesOpening, NothingIsLarger, FaultExactlyIfBad}
+use Rattle.claims.specs.Examples.{MarkedExamples}
+use Rattle.claims.specs.Idle.{RefusesEverything, PoursErasures, StoresNothing}
+use Rattle.claims.specs.Idle.{NodsAtLater, InventsLostFrames, InventsOctetCounts}
+use Rattle.claims.specs.Determined.{Determined}
+
+-- every claim of the pages beside this one
+pub record Promised : Type 0 where
+  -- demand 1: "Each call answers, or refuses by a number in document 01. A refusal changes no session and no octet of a lent buffer."
+  pub demand-1 : Demand1
+  pub refused-offer-changes-nothing : RefusedOfferChangesNothing
+  pub refusals-part-empty : RefusalsPartEmpty
+  -- "A packet from another source is refused before its payload is looked at."
+  pub another-source-is-10 : AnotherSourceIs10
+  pub another-sources-words-are-not-heard : AnotherSourcesWordsAreNotHeard
+  -- "A session left open must never take the next skipper's words."
+  pub opening-forgets : OpeningForgets
+  pub ending-forgets : EndingForgets
+  pub ended-takes-nothing : EndedTakesNothing
+  pub first-packet-begins-alone : FirstPacketBeginsAlone
+  -- the octets that a host lends for sessions and holdings
+  pub zero-is-never-opened : ZeroIsNeverOpened
+  pub no-session-takes-nothing : NoSessionTakesNothing
+  pub no-holding-holds-nothing : NoHoldingHoldsNothing
+  pub holding-reads-back : HoldingReadsBack
+  pub session-reads-back : SessionReadsBack
+  pub equal-knowledge-equal-octets : EqualKnowledgeEqualOctets
+  -- demand 2: "Writing and then reading gives back the frames; reading and then writing gives back the octets"
+  pub rr-ignored : RRIgnored
+  pub packet-read-after-write : PacketReadAfterWrite
+  pub packet-write-after-read : PacketWriteAfterRead
+  pub header-free-read-after-write : HeaderFreeReadAfterWrite
+  pub header-free-write-after-read : HeaderFreeWriteAfterRead
+  pub evrc-passes : EvrcPasses
+  pub recording-read-after-write : RecordingReadAfterWrite
+  pub recording-write-after-read : RecordingWriteAfterRead
+  pub recording-same-octets : RecordingSameOctets
+  pub opening-alone : OpeningAlone
+  -- demand 3: "each place has the original frame if its packet was offered and an erasure if not"
+  pub demand-3 : Demand3
+  pub writer-sends : WriterSends
+  pub header-free-writer-sends : HeaderFreeWriterSends
+  pub repeat-changes-nothing : RepeatChangesNothing
+  pub lost-frames-by-formula : LostFramesByFormula
+  pub octet-count-by-formula : OctetCountByFormula
+  -- "If exactly one packet of two or more is missing, exactly as many erasures stand there as a packet has frames"
+  pub one-missing-packet : OneMissingPacket
+  pub writer-sends-no-erasure : WriterSendsNoErasure
+  pub evrc-never-sends-erasures : EvrcNeverSendsErasures
+  -- "Holdings of that same group from several boxes join to the same holding in every order and grouping"
+  pub every-order-and-grouping : EveryOrderAndGrouping
+  pub every-permutation : EveryPermutation
+  pub with-itself : WithItself
+  pub difference-ends-in-14 : DifferenceEndsIn14
+  pub else-they-join : ElseTheyJoin
+  pub nothing-lost : NothingLost
+  pub nothing-invented : NothingInvented
+  pub equal-knowledge : EqualKnowledge
+  pub every-place-in-time : EveryPlaceInTime
+  pub evrc-has-room : EvrcHasRoom
+  -- "the outcome is what one box would hold had it heard all those packets"
+  pub copied-out : CopiedOut
+  pub boxes-join : BoxesJoin
+  -- "a small program that turns a capture into a recording"
+  pub group-is-recorded : GroupIsRecorded
+  pub first-source-alone : FirstSourceAlone
+  pub others-are-not-heard : OthersAreNotHeard
+  pub gives-a-recording : GivesARecording
+  pub no-packet-gives-opening : NoPacketGivesOpening
+  pub nothing-is-larger : NothingIsLarger
+  pub fault-exactly-if-bad : FaultExactlyIfBad
+  -- document 01, "Marked examples"
+  pub marked-examples : MarkedExamples
+  -- document 01, "What the promises have to say": the idle builds, and that any two outcomes allowed are equal
+  pub refuses-everything : RefusesEverything
+  pub pours-erasures : PoursErasures
+  pub stores-nothing : StoresNothing
+  pub nods-at-later : NodsAtLater
+  pub invents-lost-frames : InventsLostFrames
+  pub invents-octet-counts : InventsOctetCounts
+  pub determined : Determined

@@ -1,0 +1,362 @@
+/* Records what two boxes heard, one recording for each talk: an example of the calls on sessions and holdings, to
+ * be copied into a recorder, with hex.c and hex.h.
+ *
+ * Standard input has a line for each packet heard, in the order heard, comments from # on:
+ *
+ *     BOX SOURCE SEQUENCE TIMESTAMP PAYLOAD    BOX is ice or office; source and payload in hexadecimal, - for no octets
+ *     end NAME                                 the talk is over
+ *
+ * Standard output gets the talk's recording; with -x, a line of hexadecimal for each talk. With `ice` or `office`
+ * for an argument, that box is recorded alone. Standard error gets a line for each packet that is refused.
+ *
+ * A talk is recorded group by group. Each box offers its packets to its own session, up to the first one of a later
+ * group; then what the two hold is joined and poured. So it does not matter how far one box is behind the other. A
+ * recorder that listens has a queue where this program has a list, and otherwise does the same. */
+#include "hex.h"
+#include "landing_voice.h"
+
+#include <stdio.h>
+#include <stdlib.h>
+#include <string.h>
+
+enum {
+    PACKETS = 1024, /* the most packets of a talk that a box may hear */
+    PAYLOAD = 1500, /* the longest payload that comes over the network */
+    /* The most octets that a packet adds: frames lost before it, a group's entries, its own bodies. */
+    ADDED = LV_LOST_MAX + 80 + 10 * LV_BODY_MAX,
+    ENTRIES = 2 * PACKETS * ADDED,
+    LINE = HEX_DIGITS + 128
+};
+
+struct packet {
+    uint32_t source;
+    uint16_t sequence;
+    uint32_t timestamp;
+    size_t len;
+    uint8_t payload[PAYLOAD];
+};
+
+/* Each buffer is one of its own: what a call writes to must overlap nothing else that it is given. */
+struct box {
+    struct packet packets[PACKETS];
+    size_t count;
+    size_t next;                /* the packet to be offered next */
+    const struct packet *first; /* the packet that began the group held; NULL if none is held */
+    uint8_t session[LV_SESSION_OCTETS];
+    uint8_t held[LV_HOLDING_OCTETS]; /* the group held, copied out */
+};
+
+enum { ICE, OFFICE, BOXES };
+
+struct talk {
+    struct box boxes[BOXES];
+    const struct packet *heard_first;    /* the first packet of the talk: its source is the skipper's */
+    uint8_t recorded[LV_SESSION_OCTETS]; /* a session that remembers the last group recorded, and counts what is lost */
+    uint8_t joined[LV_HOLDING_OCTETS];
+    uint8_t group[LV_POURED_MAX];
+    uint8_t entries[ENTRIES];
+    size_t len;
+};
+
+static struct talk talk;
+static uint8_t recording[LV_OPENING_OCTETS + ENTRIES];
+static int hex;          /* whether recordings are written in hexadecimal */
+static const char *only; /* the one box that is recorded; NULL for both */
+
+static const char *const box_names[BOXES] = {"ice", "office"};
+static const char usage[] = "usage: recorder [-x] [ice|office] <PACKETS";
+
+/* Ends the program, and says why. */
+static void give_up(const char *why)
+{
+    fprintf(stderr, "recorder: %s\n", why);
+    exit(1);
+}
+
+/* Ends the program where a call is refused that is not to be. */
+static void must(const char *what, uint8_t answer)
+{
+    if (answer == LV_OK)
+        return;
+    fprintf(stderr, "recorder: %s: refused %u, %s\n", what, (unsigned)answer, lv_answer_text(answer));
+    exit(1);
+}
+
+/* Tells that a box's packet is refused. */
+static void tell(const struct box *box, const struct packet *packet, uint8_t answer)
+{
+    fprintf(stderr, "%s: source %08lX sequence %u: refused %u, %s\n", box_names[box - talk.boxes],
+            (unsigned long)packet->source, (unsigned)packet->sequence, (unsigned)answer, lv_answer_text(answer));
+}
+
+/* Offers a packet to a session. */
+static uint8_t offer(uint8_t *session, const struct packet *packet, size_t *lost)
+{
+    return lv_session_offer(session, LV_SESSION_OCTETS, packet->source, packet->sequence, packet->timestamp,
+                            packet->payload, packet->len, lost);
+}
+
+/* Offers a box's packets in turn, up to one that has to wait until more is recorded: one of a later group, or one
+ * that is too far ahead of the last group recorded. Other refusals skip the packet; the next skipper's never get
+ * in. */
+static void hear(struct box *box)
+{
+    for (; box->next < box->count; box->next++) {
+        const struct packet *packet = &box->packets[box->next];
+        size_t lost; /* not looked at: record_group says why */
+        uint8_t answer = offer(box->session, packet, &lost);
+
+        if (answer == LV_LATER_GROUP || answer == LV_TOO_FAR_AHEAD)
+            return;
+        if (answer != LV_OK)
+            tell(box, packet, answer);
+        else if (box->first == NULL)
+            box->first = packet;
+    }
+}
+
+/* Where nothing is held, nothing more will be recorded before the packets that wait: skips one of each box. Says
+ * whether there was one. */
+static int skip_waiting(void)
+{
+    int skipped = 0;
+    struct box *box;
+
+    for (box = talk.boxes; box < talk.boxes + BOXES; box++)
+        if (box->next < box->count) {
+            tell(box, &box->packets[box->next++], LV_TOO_FAR_AHEAD);
+            skipped = 1;
+        }
+    return skipped;
+}
+
+/* Room for more entries, at the end of those that are there. */
+static uint8_t *more_entries(size_t count)
+{
+    uint8_t *end = talk.entries + talk.len;
+
+    if (count > ENTRIES - talk.len)
+        give_up("the talk is too long");
+    talk.len += count;
+    return end;
+}
+
+/* Adds a group to the recording, behind the frames that were lost before it. Its first packet tells how many: it is
+ * offered to the recording's own session, which has heard one packet of each group recorded. A box's own count
+ * would also count the groups that only the other box heard. */
+static void record_group(const struct box *box, const uint8_t *holding)
+{
+    size_t lost, written;
+    uint8_t answer = offer(talk.recorded, box->first, &lost);
+
+    if (answer != LV_OK) {
+        tell(box, box->first, answer);
+        return;
+    }
+    /* Pouring ends the group and remembers it. What it pours is overwritten: only the one packet is in it. */
+    must("pouring a packet", lv_session_pour(talk.recorded, LV_SESSION_OCTETS, talk.group, LV_POURED_MAX, &written));
+    must("pouring a group", lv_holding_pour(holding, LV_HOLDING_OCTETS, talk.group, LV_POURED_MAX, &written));
+    memset(more_entries(lost), LV_ERASURE, lost);
+    memcpy(more_entries(written), talk.group, written);
+}
+
+/* A box whose group is recorded, or that held none, goes on from the last group recorded, also if only the other
+ * box heard it. Sessions may be copied whole. */
+static void go_on(struct box *box)
+{
+    memcpy(box->session, talk.recorded, LV_SESSION_OCTETS);
+    box->first = NULL;
+}
+
+/* Which of two boxes that hold different groups is at the earlier one; NULL if the groups contradict each other.
+ * The library knows: a packet of the office's group is offered to the ice house's session. It is refused, and that
+ * changes nothing. */
+static struct box *earlier(struct box *ice, struct box *office)
+{
+    size_t lost;
+    uint8_t answer = offer(ice->session, office->first, &lost);
+
+    return answer == LV_LATER_GROUP ? ice : answer == LV_EARLIER_GROUP ? office : NULL;
+}
+
+/* Joins what both boxes hold. Gives the box that is recorded by itself instead, where they are at different groups
+ * or contradict each other; NULL where they are joined. */
+static struct box *join(struct box *ice, struct box *office)
+{
+    uint8_t answer = lv_holding_join(ice->held, sizeof ice->held, office->held, sizeof office->held, talk.joined,
+                                     sizeof talk.joined);
+    struct box *alone = answer == LV_NOT_SAME_GROUP ? earlier(ice, office) : NULL;
+
+    if (answer == LV_OK || alone != NULL)
+        return alone;
+    /* Somebody has to look at it. The ice house's word is taken. */
+    fprintf(stderr, "ice and office differ at sequence %u\n", (unsigned)office->first->sequence);
+    office->first = NULL;
+    return ice;
+}
+
+/* Records the earliest group held: joined, if both boxes hold it. At least one box holds a group. */
+static void close_group(struct box *ice, struct box *office)
+{
+    struct box *alone = ice->first == NULL ? office : ice;
+    struct box *box;
+
+    for (box = talk.boxes; box < talk.boxes + BOXES; box++)
+        if (box->first != NULL)
+            must("copying a group", lv_session_copy(box->session, LV_SESSION_OCTETS, box->held, sizeof box->held));
+    if (ice->first != NULL && office->first != NULL)
+        alone = join(ice, office);
+    if (alone == NULL) {
+        record_group(ice, talk.joined);
+        ice->first = office->first = NULL;
+    } else {
+        record_group(alone, alone->held);
+        alone->first = NULL;
+    }
+    if (ice->first == NULL)
+        go_on(ice);
+    if (office->first == NULL)
+        go_on(office);
+}
+
+/* Records a talk: all groups of the first packet's source. */
+static void record_talk(struct box *ice, struct box *office)
+{
+    if (talk.heard_first == NULL)
+        return;
+    must("opening a session", lv_session_open(talk.heard_first->source, LV_INTERLEAVED, LV_DEFAULT_MAX_L,
+                                              LV_DEFAULT_MAX_B, talk.recorded, sizeof talk.recorded));
+    go_on(ice);
+    go_on(office);
+    for (;;) {
+        hear(ice);
+        hear(office);
+        if (ice->first != NULL || office->first != NULL)
+            close_group(ice, office);
+        else if (!skip_waiting())
+            return;
+    }
+}
+
+/* Writes a talk's recording. */
+static void write_talk(const char *name)
+{
+    size_t written;
+
+    must("writing the recording", lv_recording_write(talk.entries, talk.len, recording, sizeof recording, &written));
+    if (hex)
+        hex_line(name, recording, written);
+    else if (fwrite(recording, 1, written, stdout) != written)
+        give_up("standard output cannot be written");
+}
+
+/* Wipe hands, then log out: the sessions are ended, and no word of the talk stays behind. */
+static void end_talk(void)
+{
+    must("ending a session", lv_session_end(talk.boxes[ICE].session, LV_SESSION_OCTETS));
+    must("ending a session", lv_session_end(talk.boxes[OFFICE].session, LV_SESSION_OCTETS));
+    must("ending a session", lv_session_end(talk.recorded, LV_SESSION_OCTETS));
+    memset(&talk, 0, sizeof talk);
+    memset(recording, 0, sizeof recording);
+}
+
+/* The box of a name; NULL if there is none. */
+static struct box *box_of(const char *name)
+{
+    int i;
+
+    for (i = 0; i < BOXES; i++)
+        if (strcmp(name, box_names[i]) == 0)
+            return &talk.boxes[i];
+    return NULL;
+}
+
+/* Reads a packet's line into its box's list, unless only the other box is recorded; 0 where it is no such line. */
+static int read_packet(const char *line)
+{
+    static char word[HEX_DIGITS + 1];
+    static uint8_t octets[HEX_OCTETS];
+    char name[16], more[2];
+    unsigned long source, sequence, timestamp;
+    struct box *box;
+    struct packet *packet;
+    long len;
+
+    if (sscanf(line, "%15s %lx %lu %lu %8192s %1s", name, &source, &sequence, &timestamp, word, more) != 5 ||
+        source > 0xFFFFFFFFul || sequence > 0xFFFFul || timestamp > 0xFFFFFFFFul)
+        return 0;
+    box = box_of(name);
+    len = hex_octets(word, octets);
+    if (box == NULL || len < 0 || len > PAYLOAD)
+        return 0;
+    if (only != NULL && strcmp(name, only) != 0)
+        return 1;
+    if (box->count == PACKETS)
+        give_up("the talk is too long");
+    packet = &box->packets[box->count++];
+    packet->source = (uint32_t)source;
+    packet->sequence = (uint16_t)sequence;
+    packet->timestamp = (uint32_t)timestamp;
+    packet->len = (size_t)len;
+    memcpy(packet->payload, octets, (size_t)len);
+    if (talk.heard_first == NULL)
+        talk.heard_first = packet;
+    return 1;
+}
+
+/* Takes a line: a packet, or the end of a talk, which is then recorded. */
+static void take_line(char *line)
+{
+    static int talks;
+    char name[64];
+
+    if (strchr(line, '\n') == NULL && !feof(stdin))
+        give_up("a line is too long");
+    line[strcspn(line, "#\n")] = '\0';
+    if (line[strspn(line, " \t\r")] == '\0')
+        return;
+    if (sscanf(line, "end %63s", name) == 1) {
+        if (!hex && talks++ > 0)
+            give_up("a second talk: only -x takes several");
+        record_talk(&talk.boxes[ICE], &talk.boxes[OFFICE]);
+        write_talk(name);
+        end_talk();
+    } else if (!read_packet(line)) {
+        fprintf(stderr, "recorder: no such line: %.60s\n", line);
+        exit(1);
+    }
+}
+
+/* Reads the arguments. */
+static void read_options(int argc, char **argv)
+{
+    int i;
+
+    for (i = 1; i < argc; i++) {
+        if (strcmp(argv[i], "-x") == 0)
+            hex = 1;
+        else if (box_of(argv[i]) != NULL)
+            only = argv[i];
+        else if (strcmp(argv[i], "-h") == 0 || strcmp(argv[i], "--help") == 0)
+            exit(puts(usage) < 0);
+        else
+            give_up(usage);
+    }
+}
+
+/* Takes one line after the other. */
+int main(int argc, char **argv)
+{
+    static char line[LINE];
+
+    read_options(argc, argv);
+    while (fgets(line, sizeof line, stdin) != NULL)
+        take_line(line);
+    if (ferror(stdin))
+        give_up("standard input cannot be read");
+    if (talk.heard_first != NULL)
+        give_up("the last talk has no end");
+    if (fflush(stdout) != 0)
+        give_up("standard output cannot be written");
+    return 0;
+}

@@ -1,0 +1,231 @@
+/* Holds the header's numbers to what the calls do at the edge: what is just there is taken, one more is refused;
+ * the greatest group, loss, capture and recording are made. Says on standard error what does not hold; the status
+ * is then 1.
+ *
+ * Good as C and as C++. ci/steps/20-header compiles it, with ANSWERS for the enumerators of lv_answer. */
+#include "landing_voice.h"
+
+#include <stdio.h>
+#include <string.h>
+
+enum { MAX_L = 7, MAX_B = 10, PAYLOAD = 1 + MAX_B + MAX_B * LV_BODY_MAX, HEAD = 12, GUARD = 0xA5 };
+
+static int failed;
+static uint8_t session[LV_SESSION_OCTETS + 1], holding[LV_HOLDING_OCTETS + 1], joined[LV_HOLDING_OCTETS];
+static uint8_t capture[LV_CAPTURE_MAX + 1], recording[LV_RECORDING_MAX + 1], poured[LV_POURED_MAX + 1];
+static uint8_t payload[PAYLOAD];
+
+/* Notes what does not hold. */
+static void holds(int good, const char *what)
+{
+    if (good)
+        return;
+    fprintf(stderr, "limits: does not hold: %s\n", what);
+    failed = 1;
+}
+
+/* The longest payload: packet n of a group of the greatest L and B, Rate 1 frames alone. */
+static void longest_payload(int n)
+{
+    memset(payload, 0, sizeof payload);
+    payload[0] = (uint8_t)(8 * MAX_L + n);
+    memset(payload + 1, 0x80 | LV_RATE_1, MAX_B - 1);
+    payload[MAX_B] = LV_RATE_1;
+}
+
+/* Offers that payload to the session, from source 7. */
+static uint8_t offer(int n, unsigned sequence, size_t *lost)
+{
+    longest_payload(n);
+    return lv_session_offer(session, LV_SESSION_OCTETS, 7, (uint16_t)sequence, 160u * (uint32_t)n, payload,
+                            sizeof payload, lost);
+}
+
+/* Opens the session with maxima, in so many octets. */
+static uint8_t open_session(int max_l, int max_b, size_t len)
+{
+    return lv_session_open(7, LV_INTERLEAVED, (uint8_t)max_l, (uint8_t)max_b, session, len);
+}
+
+/* LV_SESSION_OCTETS: fewer are refused, and no more are written. The maxima and the defaults are in range. */
+static void try_session(void)
+{
+    memset(session, GUARD, sizeof session);
+    holds(open_session(MAX_L, MAX_B, LV_SESSION_OCTETS - 1) == LV_NO_ROOM, "a session needs LV_SESSION_OCTETS");
+    holds(open_session(MAX_L + 1, MAX_B, LV_SESSION_OCTETS) == LV_NOT_APPLICABLE, "L is at most 7");
+    holds(open_session(MAX_L, MAX_B + 1, LV_SESSION_OCTETS) == LV_NOT_APPLICABLE, "B is at most 10");
+    holds(open_session(LV_DEFAULT_MAX_L, LV_DEFAULT_MAX_B, LV_SESSION_OCTETS) == LV_OK, "the defaults are in range");
+    holds(open_session(MAX_L, MAX_B, sizeof session) == LV_OK, "LV_SESSION_OCTETS are enough");
+    holds(session[LV_SESSION_OCTETS - 1] == 0 && session[LV_SESSION_OCTETS] == GUARD, "a session is LV_SESSION_OCTETS");
+}
+
+/* LV_POURED_MAX and LV_HOLDING_OCTETS: the greatest group, held whole, poured from a holding and from the session. */
+static void try_group(void)
+{
+    size_t lost, written;
+    int n;
+
+    for (n = 0; n <= MAX_L; n++)
+        holds(offer(n, (unsigned)n, &lost) == LV_OK && lost == 0, "the greatest group is heard");
+    memset(holding, GUARD, sizeof holding);
+    holds(lv_session_copy(session, LV_SESSION_OCTETS, holding, LV_HOLDING_OCTETS - 1) == LV_NO_ROOM &&
+              lv_session_copy(session, LV_SESSION_OCTETS, holding, sizeof holding) == LV_OK &&
+              holding[LV_HOLDING_OCTETS - 1] == 0 && holding[LV_HOLDING_OCTETS] == GUARD,
+          "a holding is LV_HOLDING_OCTETS");
+    holds(lv_holding_join(holding, LV_HOLDING_OCTETS, holding, LV_HOLDING_OCTETS, joined, sizeof joined) == LV_OK &&
+              memcmp(holding, joined, LV_HOLDING_OCTETS) == 0,
+          "a holding joined with itself is itself");
+    holds(lv_holding_pour(joined, sizeof joined, poured, LV_POURED_MAX - 1, &written) == LV_NO_ROOM &&
+              lv_holding_pour(joined, sizeof joined, poured, sizeof poured, &written) == LV_OK &&
+              written == LV_POURED_MAX,
+          "the greatest holding is LV_POURED_MAX octets poured");
+    holds(lv_session_pour(session, LV_SESSION_OCTETS, poured, LV_POURED_MAX - 1, &written) == LV_NO_ROOM &&
+              lv_session_pour(session, LV_SESSION_OCTETS, poured, LV_POURED_MAX, &written) == LV_OK &&
+              written == LV_POURED_MAX,
+          "the greatest group is LV_POURED_MAX octets poured");
+}
+
+/* LV_LOST_MAX: behind that group, 101 packets missing are too many, and 100 are the most frames lost. */
+static void try_lost(void)
+{
+    size_t lost = 0;
+
+    holds(offer(0, MAX_L + 1 + 101, &lost) == LV_TOO_FAR_AHEAD, "101 packets are too many");
+    holds(offer(0, MAX_L + 1 + 100, &lost) == LV_OK && lost == LV_LOST_MAX, "at most LV_LOST_MAX frames are lost");
+}
+
+/* LV_BODY_MAX and LV_OPENING_OCTETS. */
+static void try_octets(void)
+{
+    uint8_t type = 0, l, n, b, d;
+    size_t start = 1, size = 0, written = 0;
+
+    holds(lv_payload_frame(LV_HEADER_FREE, 0, 0, payload, LV_BODY_MAX, 0, &type, &start, &size) == LV_OK &&
+              type == LV_RATE_1 && start == 0 && size == LV_BODY_MAX,
+          "the longest body is LV_BODY_MAX octets");
+    holds(lv_payload_read(LV_HEADER_FREE, 0, 0, payload, LV_BODY_MAX + 1, &l, &n, &b, &d) == LV_HEADER_FREE_LENGTH,
+          "no body is longer than LV_BODY_MAX");
+    holds(lv_recording_write(payload, 0, recording, sizeof recording, &written) == LV_OK &&
+              written == LV_OPENING_OCTETS,
+          "a recording of nothing is LV_OPENING_OCTETS");
+}
+
+/* The frame types: each has a body of its size; a blank may be sent, and an erasure not. */
+static void try_types(void)
+{
+    static const uint8_t types[] = {LV_BLANK, LV_RATE_8TH, LV_RATE_HALF, LV_RATE_1, LV_ERASURE};
+    static const uint8_t sizes[] = {0, 2, 10, LV_BODY_MAX, 0};
+    uint8_t entry[1 + LV_BODY_MAX] = {0}, type = 255;
+    size_t start, size = 255, written = 0, k;
+
+    for (k = 0; k < sizeof types; k++) {
+        entry[0] = types[k];
+        holds(lv_recording_write(entry, 1u + sizes[k], recording, sizeof recording, &written) == LV_OK &&
+                  lv_recording_frame(recording, written, 0, &type, &start, &size) == LV_OK && type == types[k] &&
+                  size == sizes[k],
+              "each type has its size");
+        holds(lv_packet_write(LV_INTERLEAVED, 0, 1, 0, 0, 1, 0, entry, 1u + sizes[k], poured, sizeof poured,
+                              &written) == (k + 1 == sizeof types ? LV_NOT_SENDABLE : LV_OK),
+              "all but the last, an erasure, may be sent");
+    }
+}
+
+/* Writes a number of a capture, big-endian, in two octets. */
+static void put_two(size_t at, size_t number)
+{
+    capture[at] = (uint8_t)(number / 256);
+    capture[at + 1] = (uint8_t)(number % 256);
+}
+
+/* LV_CAPTURE_MAX and LV_CAPTURE_PACKETS_MAX: one packet that fills a capture, and as many packets as there can be. */
+static void try_capture(void)
+{
+    size_t count, written = 0;
+
+    memset(capture, 0, sizeof capture);
+    put_two(0, 1);
+    put_two(HEAD, LV_CAPTURE_MAX - HEAD - 2);
+    holds(lv_capture_record(capture, LV_CAPTURE_MAX, recording, sizeof recording, &written) == LV_OK,
+          "a capture may have LV_CAPTURE_MAX octets");
+    put_two(HEAD, LV_CAPTURE_MAX + 1 - HEAD - 2);
+    holds(lv_capture_record(capture, LV_CAPTURE_MAX + 1, recording, sizeof recording, &written) == LV_BAD_CAPTURE,
+          "a capture has at most LV_CAPTURE_MAX octets");
+    memset(capture, 0, sizeof capture);
+    for (count = LV_CAPTURE_PACKETS_MAX; count <= LV_CAPTURE_PACKETS_MAX + 1; count++) {
+        put_two(0, count);
+        holds(lv_capture_record(capture, 2 + HEAD * count, recording, sizeof recording, &written) ==
+                  (count > LV_CAPTURE_PACKETS_MAX ? LV_BAD_CAPTURE : LV_OK),
+              "a capture has at most LV_CAPTURE_PACKETS_MAX packets");
+    }
+}
+
+/* LV_RECORDING_MAX: every packet begins a group of the greatest L and B, 100 packets behind the one before it. */
+static void try_recording(void)
+{
+    size_t table = 2 + HEAD * LV_CAPTURE_PACKETS_MAX, len = table + PAYLOAD * LV_CAPTURE_PACKETS_MAX;
+    size_t written = 0, i;
+
+    memset(capture, 0, sizeof capture);
+    put_two(0, LV_CAPTURE_PACKETS_MAX);
+    longest_payload(0);
+    for (i = 0; i < LV_CAPTURE_PACKETS_MAX; i++) {
+        put_two(2 + HEAD * i + 4, (MAX_L + 1 + 100) * i % 65536);
+        put_two(2 + HEAD * i + 10, PAYLOAD);
+        memcpy(capture + table + PAYLOAD * i, payload, PAYLOAD);
+    }
+    holds(lv_capture_record(capture, len, recording, LV_RECORDING_MAX - 1, &written) == LV_NO_ROOM &&
+              lv_capture_record(capture, len, recording, LV_RECORDING_MAX, &written) == LV_OK &&
+              written == LV_RECORDING_MAX,
+          "the longest recording of a capture is LV_RECORDING_MAX octets");
+}
+
+/* How often a number is an answer: 0 or 1. */
+static int times_answer(int number)
+{
+    static const uint8_t answers[] = {ANSWERS};
+    int times = 0;
+    size_t i;
+
+    for (i = 0; i < sizeof answers; i++)
+        times += answers[i] == number;
+    return times;
+}
+
+/* lv_answer_text: a phrase for each answer, no two the same, and the one for no answer for every other number. */
+static void try_texts(void)
+{
+    int i;
+
+    for (i = 0; i < 256 * 256; i++) {
+        int number = i / 256, other = i % 256, times = times_answer(number);
+        const char *text = lv_answer_text((uint8_t)number);
+        holds(times <= 1, "no two answers are the same");
+        holds((strcmp(text, "no such answer") == 0) == (times == 0), "each answer has a phrase, and no other number");
+        holds(times == 0 || number == other || strcmp(text, lv_answer_text((uint8_t)other)) != 0,
+              "no two phrases are the same");
+    }
+}
+
+/* LV_VERSION and LV_VERSION_NUMBER are the same version. */
+static void try_version(void)
+{
+    char version[32];
+
+    sprintf(version, "%d.%d.%d", LV_VERSION_NUMBER / 10000, LV_VERSION_NUMBER / 100 % 100, LV_VERSION_NUMBER % 100);
+    holds(strcmp(version, LV_VERSION) == 0, "LV_VERSION_NUMBER is LV_VERSION");
+}
+
+/* One after the other: the session goes on from each to the next. */
+int main(void)
+{
+    try_session();
+    try_group();
+    try_lost();
+    try_octets();
+    try_types();
+    try_capture();
+    try_recording();
+    try_texts();
+    try_version();
+    return failed;
+}

@@ -14,7 +14,8 @@ ghost use lib.Dec.{leb};
 ghost use Rattle.frame.specs.Table.{evrc, erasure};
 ghost use Rattle.recording.specs.Recording.{evrcOpening};
 ghost use Rattle.capture.specs.Table.{countOf, lengthAt, lengths, startAt, heardAt, packetsIn, faultOf, good};
-ghost use Rattle.capture.specs.Run.{firstSession, offeredTo, lostIn, largest, takenOf, isTwelve, pouring, stepOf, runOf, recordingOf, Put, Does, recorded, outputOf};
+ghost use Rattle.capture.specs.Run.{firstSession, offeredTo, lostIn, largest, takenOf, isTwelve, pouring, stepOf};
+ghost use Rattle.capture.specs.Run.{runOf, recordingOf, Put, Does, recorded, outputOf};
 
 // The most octets that the recording of a capture can have.
 pub const LARGEST: usize = 331807;
@@ -119,7 +120,9 @@ fn is_good(capture: &[u8]) -> bool
 
 // Packet i, whose payload begins at start, offered to a session.
 fn offer_packet(session: Session, capture: &[u8], i: usize, start: usize) -> Offered
-    requires { ⌜ (2 + 12 * (i + 1) ≤ length (now capture)) × (start ≡ startAt (now capture) i) × (start + lengthAt (now capture) i ≤ length (now capture)) ⌝ }
+    requires { ⌜ (2 + 12 * (i + 1) ≤ length (now capture))
+        × (start ≡ startAt (now capture) i)
+        × (start + lengthAt (now capture) i ≤ length (now capture)) ⌝ }
     ensures { λ r. ⌜ r ≡ offeredTo evrc session (heardAt (now (capture .entry)) i) ⌝ }
 {
     let row = 2 + 12 * i;
@@ -216,7 +219,10 @@ fn is_later(answer: Taken) -> bool
 
 // The run after packet i: on 12 the group is poured and the packet offered again.
 fn step(run: Run, capture: &[u8], i: usize, start: usize, out: &mut [u8]) -> Run
-    requires { ⌜ (2 + 12 * (i + 1) ≤ length (now capture)) × (start ≡ startAt (now capture) i) × (start + lengthAt (now capture) i ≤ length (now capture)) × (run .octets ≤ largest) ⌝ }
+    requires { ⌜ (2 + 12 * (i + 1) ≤ length (now capture))
+        × (start ≡ startAt (now capture) i)
+        × (start + lengthAt (now capture) i ≤ length (now capture))
+        × (run .octets ≤ largest) ⌝ }
     ensures { λ r. ⌜ Does (stepOf evrc (run .session) (heardAt (now (capture .entry)) i)) (run .octets) (now (out .entry)) r (now (out .exit)) ⌝ }
 {
     let session = run.session;
@@ -252,7 +258,10 @@ fn first_session(capture: &[u8], count: usize) -> Session
 
 // The run over all packets.
 fn run_packets(begun: Run, capture: &[u8], count: usize, out: &mut [u8]) -> Run
-    requires { ⌜ (good (now capture) ≡ true) × (count ≡ countOf (now capture)) × (begun .octets ≡ 7) × (begun .session ≡ firstSession (packetsIn (now capture))) ⌝ }
+    requires { ⌜ (good (now capture) ≡ true)
+        × (count ≡ countOf (now capture))
+        × (begun .octets ≡ 7)
+        × (begun .session ≡ firstSession (packetsIn (now capture))) ⌝ }
     ensures { λ r. ⌜ Does (runOf evrc (begun .session) (packetsIn (now (capture .entry)))) (begun .octets) (now (out .entry)) r (now (out .exit)) ⌝ }
 {
     let mut run = begun;
@@ -269,7 +278,8 @@ fn run_packets(begun: Run, capture: &[u8], count: usize, out: &mut [u8]) -> Run
 // Runs over a good capture and gives the octets of its recording, which is written over out if it fits there.
 fn run_capture(capture: &[u8], out: &mut [u8]) -> usize
     requires { ⌜ good (now capture) ≡ true ⌝ }
-    ensures { λ r. ⌜ (r ≡ length (recordingOf evrc evrcOpening (now (capture .entry)))) × Put (now (out .entry)) 0 (recordingOf evrc evrcOpening (now (capture .entry))) (now (out .exit)) ⌝ }
+    ensures { λ r. ⌜ (r ≡ length (recordingOf evrc evrcOpening (now (capture .entry))))
+        × Put (now (out .entry)) 0 (recordingOf evrc evrcOpening (now (capture .entry))) (now (out .exit)) ⌝ }
 {
     let count = octets::two(capture, 0) as usize;
     recording::write(&capture[..0], out);
@@ -302,7 +312,8 @@ fn fits(capture: &[u8], room: usize) -> bool
 
 // Turns a capture into a recording, written to out. The whole is judged before an octet is written.
 pub fn record(capture: &[u8], out: &mut [u8]) -> Outcome
-    ensures { λ r. ⌜ (r ≡ recorded evrc evrcOpening (now (capture .entry)) (now (out .entry))) × (now (out .exit) ≡ outputOf evrc evrcOpening (now (capture .entry)) (now (out .entry))) ⌝ }
+    ensures { λ r. ⌜ (r ≡ recorded evrc evrcOpening (now (capture .entry)) (now (out .entry)))
+        × (now (out .exit) ≡ outputOf evrc evrcOpening (now (capture .entry)) (now (out .entry))) ⌝ }
 {
     let good = is_good(capture);
     if !good {

@@ -10,7 +10,9 @@ ghost use lib.ListN.{length};
 ghost use Rattle.frame.specs.Table.{evrc};
 ghost use Rattle.payload.specs.Payload.{readAs};
 ghost use Rattle.holding.specs.Bases.{baseSequence, baseTimestamp};
-ghost use Rattle.holding.specs.Group.{packetIn, erased, samePackets, mayStand, frameRight, framesRight, nothing, begun, blank, isNothing, heldAt, packetOf, withPacket, packetRight, rightAt, allBelow, sound, holds};
+ghost use Rattle.holding.specs.Group.{packetIn, erased, samePackets, mayStand, frameRight, framesRight, nothing};
+ghost use Rattle.holding.specs.Group.{begun, blank, isNothing, heldAt, packetOf, withPacket, packetRight, rightAt};
+ghost use Rattle.holding.specs.Group.{allBelow, sound, holds};
 ghost use Rattle.holding.specs.LaidOut.{laid, framesRead};
 
 // One group as far as heard. Frame k of packet n has its type at marks[10 * n + k] and its body at room[220 * n + 22 * k ..].
@@ -209,7 +211,8 @@ pub fn is_held(h: Holding, n: usize) -> bool
 
 // Whether two packets, given by their marks and rooms, have the same types and bodies.
 pub fn same_packets(marks: &[u8], room: &[u8], other_marks: &[u8], other_room: &[u8]) -> bool
-    ensures { λ r. ⌜ r ≡ samePackets (packetIn (now (marks .entry)) (now (room .entry))) (packetIn (now («other_marks» .entry)) (now («other_room» .entry))) ⌝ }
+    ensures { λ r. ⌜ r
+        ≡ samePackets (packetIn (now (marks .entry)) (now (room .entry))) (packetIn (now («other_marks» .entry)) (now («other_room» .entry))) ⌝ }
 {
     let alike = octets::same(marks, other_marks);
     if alike {

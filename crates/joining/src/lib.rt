@@ -41,7 +41,8 @@ fn agrees_at(
     other_marks: &[u8],
     other_room: &[u8],
 ) -> bool
-    ensures { λ r. ⌜ r ≡ meets held (packetIn (now (marks .entry)) (now (room .entry))) «other_held» (packetIn (now («other_marks» .entry)) (now («other_room» .entry))) ⌝ }
+    ensures { λ r. ⌜ r
+        ≡ meets held (packetIn (now (marks .entry)) (now (room .entry))) «other_held» (packetIn (now («other_marks» .entry)) (now («other_room» .entry))) ⌝ }
 {
     if held {
         if other_held {

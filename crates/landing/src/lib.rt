@@ -38,7 +38,8 @@ ghost use Rattle.landing.specs.Host.{
   openNamed,
   openedNamed,
 };
-ghost use Rattle.lending.specs.Calls.{offerAnswer, offerOctets, pourOf, pourOctets, copyAnswer, copyOctets, endAnswer, endOctets, joinAnswer, joinOctets, pourHeld};
+ghost use Rattle.lending.specs.Calls.{offerAnswer, offerOctets, pourOf, pourOctets, copyAnswer, copyOctets, endAnswer};
+ghost use Rattle.lending.specs.Calls.{endOctets, joinAnswer, joinOctets, pourHeld};
 
 // The agreed form that a host names by a number and two maxima, or the refusal.
 pub enum Named {
@@ -91,7 +92,8 @@ pub extern "C" fn lv_payload_read(
     b: &mut u8,
     d: &mut u8,
 ) -> u8
-    ensures { λ r. ⌜ packetTold r (now (l .exit)) (now (n .exit)) (now (b .exit)) (now (d .exit)) ≡ packetAfter (contentsOf (readNamed evrc (namedForm form «max_l» «max_b») (now (payload .entry)))) (now (l .entry)) (now (n .entry)) (now (b .entry)) (now (d .entry)) ⌝ }
+    ensures { λ r. ⌜ packetTold r (now (l .exit)) (now (n .exit)) (now (b .exit)) (now (d .exit))
+        ≡ packetAfter (contentsOf (readNamed evrc (namedForm form «max_l» «max_b») (now (payload .entry)))) (now (l .entry)) (now (n .entry)) (now (b .entry)) (now (d .entry)) ⌝ }
 {
     let held = read_named(form, max_l, max_b, payload);
     match held {
@@ -113,7 +115,8 @@ pub extern "C" fn lv_payload_read(
 
 // Tells a host where a frame lies: 0, and its type, start and size; or the refusal's number, and nothing written.
 fn tell_place(place: Located, kind: &mut u8, start: &mut usize, size: &mut usize) -> u8
-    ensures { λ r. ⌜ placeTold r (now (kind .exit)) (now (start .exit)) (now (size .exit)) ≡ placeAfter place (now (kind .entry)) (now (start .entry)) (now (size .entry)) ⌝ }
+    ensures { λ r. ⌜ placeTold r (now (kind .exit)) (now (start .exit)) (now (size .exit))
+        ≡ placeAfter place (now (kind .entry)) (now (start .entry)) (now (size .entry)) ⌝ }
 {
     match place {
         Located::Refused(r) => r.number(),
@@ -142,7 +145,8 @@ pub extern "C" fn lv_payload_frame(
     start: &mut usize,
     size: &mut usize,
 ) -> u8
-    ensures { λ r. ⌜ placeTold r (now (kind .exit)) (now (start .exit)) (now (size .exit)) ≡ placeAfter (locatedOf (givenNamed evrc (namedForm form «max_l» «max_b») (now (payload .entry))) k) (now (kind .entry)) (now (start .entry)) (now (size .entry)) ⌝ }
+    ensures { λ r. ⌜ placeTold r (now (kind .exit)) (now (start .exit)) (now (size .exit))
+        ≡ placeAfter (locatedOf (givenNamed evrc (namedForm form «max_l» «max_b») (now (payload .entry))) k) (now (kind .entry)) (now (start .entry)) (now (size .entry)) ⌝ }
 {
     tell_place(
         locate_named(form, max_l, max_b, payload, k),
@@ -155,7 +159,8 @@ pub extern "C" fn lv_payload_frame(
 // Reads a recording: 0 and its frame count; or the refusal's number, and nothing written.
 #[no_mangle]
 pub extern "C" fn lv_recording_read(recording: &[u8], count: &mut usize) -> u8
-    ensures { λ r. ⌜ countTold r (now (count .exit)) ≡ countAfter (countedOf (recorded evrc evrcOpening (now (recording .entry)))) (now (count .entry)) ⌝ }
+    ensures { λ r. ⌜ countTold r (now (count .exit))
+        ≡ countAfter (countedOf (recorded evrc evrcOpening (now (recording .entry)))) (now (count .entry)) ⌝ }
 {
     let held = recording::read(recording);
     match held {
@@ -176,7 +181,8 @@ pub extern "C" fn lv_recording_frame(
     start: &mut usize,
     size: &mut usize,
 ) -> u8
-    ensures { λ r. ⌜ placeTold r (now (kind .exit)) (now (start .exit)) (now (size .exit)) ≡ placeAfter (locatedOf (givenIn evrc evrcOpening (now (recording .entry))) k) (now (kind .entry)) (now (start .entry)) (now (size .entry)) ⌝ }
+    ensures { λ r. ⌜ placeTold r (now (kind .exit)) (now (start .exit)) (now (size .exit))
+        ≡ placeAfter (locatedOf (givenIn evrc evrcOpening (now (recording .entry))) k) (now (kind .entry)) (now (start .entry)) (now (size .entry)) ⌝ }
 {
     tell_place(recording::locate(recording, k), kind, start, size)
 }
@@ -197,7 +203,8 @@ fn tell_written(made: Written, written: &mut usize) -> u8
 // Writes a recording of entries.
 #[no_mangle]
 pub extern "C" fn lv_recording_write(entries: &[u8], out: &mut [u8], written: &mut usize) -> u8
-    ensures { λ r. ⌜ writeTold r (now (written .exit)) (now (out .exit)) ≡ writeAfter (recordingMade evrc evrcOpening (now (entries .entry))) (now (written .entry)) (now (out .entry)) ⌝ }
+    ensures { λ r. ⌜ writeTold r (now (written .exit)) (now (out .exit))
+        ≡ writeAfter (recordingMade evrc evrcOpening (now (entries .entry))) (now (written .entry)) (now (out .entry)) ⌝ }
 {
     tell_written(recording::write(entries, out), written)
 }
@@ -237,7 +244,8 @@ pub extern "C" fn lv_packet_write(
     out: &mut [u8],
     written: &mut usize,
 ) -> u8
-    ensures { λ r. ⌜ writeTold r (now (written .exit)) (now (out .exit)) ≡ writeAfter (packetNamed evrc (namedForm form «max_l» «max_b») l n b d (now (entries .entry))) (now (written .entry)) (now (out .entry)) ⌝ }
+    ensures { λ r. ⌜ writeTold r (now (written .exit)) (now (out .exit))
+        ≡ writeAfter (packetNamed evrc (namedForm form «max_l» «max_b») l n b d (now (entries .entry))) (now (written .entry)) (now (out .entry)) ⌝ }
 {
     tell_written(
         packet_named(form, max_l, max_b, l, n, b, d, entries, out),
@@ -266,7 +274,8 @@ pub extern "C" fn lv_packet_write_header_free(
     out: &mut [u8],
     written: &mut usize,
 ) -> u8
-    ensures { λ r. ⌜ writeTold r (now (written .exit)) (now (out .exit)) ≡ writeAfter (headerFreeNamed evrc (namedForm form «max_l» «max_b») (now (entries .entry))) (now (written .entry)) (now (out .entry)) ⌝ }
+    ensures { λ r. ⌜ writeTold r (now (written .exit)) (now (out .exit))
+        ≡ writeAfter (headerFreeNamed evrc (namedForm form «max_l» «max_b») (now (entries .entry))) (now (written .entry)) (now (out .entry)) ⌝ }
 {
     tell_written(header_free_named(form, max_l, max_b, entries, out), written)
 }
@@ -284,7 +293,8 @@ fn tell_recorded(outcome: Outcome, written: &mut usize) -> u8
 // Turns a capture into a recording; 255 for a bad capture.
 #[no_mangle]
 pub extern "C" fn lv_capture_record(capture: &[u8], out: &mut [u8], written: &mut usize) -> u8
-    ensures { λ r. ⌜ writeTold r (now (written .exit)) (now (out .exit)) ≡ recordAfter evrc evrcOpening (now (capture .entry)) (now (written .entry)) (now (out .entry)) ⌝ }
+    ensures { λ r. ⌜ writeTold r (now (written .exit)) (now (out .exit))
+        ≡ recordAfter evrc evrcOpening (now (capture .entry)) (now (written .entry)) (now (out .entry)) ⌝ }
 {
     tell_recorded(capture::record(capture, out), written)
 }
@@ -316,7 +326,8 @@ fn tell_taken(answer: Taken, lost: &mut usize) -> u8
 
 // A lent session opened in the form that is named: 15 for too few octets, then 21 for no form.
 fn open_named(source: u32, form: u8, max_l: u8, max_b: u8, session: &mut [u8]) -> Answer
-    ensures { λ r. ⌜ (r ≡ openNamed (namedForm form «max_l» «max_b») source (now (session .entry))) × (now (session .exit) ≡ openedNamed (namedForm form «max_l» «max_b») source (now (session .entry))) ⌝ }
+    ensures { λ r. ⌜ (r ≡ openNamed (namedForm form «max_l» «max_b») source (now (session .entry)))
+        × (now (session .exit) ≡ openedNamed (namedForm form «max_l» «max_b») source (now (session .entry))) ⌝ }
 {
     let named = form_named(form, max_l, max_b);
     match named {
@@ -339,7 +350,8 @@ pub extern "C" fn lv_session_open(
     max_b: u8,
     session: &mut [u8],
 ) -> u8
-    ensures { λ r. ⌜ (r ≡ answerNumber (openNamed (namedForm form «max_l» «max_b») source (now (session .entry)))) × (now (session .exit) ≡ openedNamed (namedForm form «max_l» «max_b») source (now (session .entry))) ⌝ }
+    ensures { λ r. ⌜ (r ≡ answerNumber (openNamed (namedForm form «max_l» «max_b») source (now (session .entry))))
+        × (now (session .exit) ≡ openedNamed (namedForm form «max_l» «max_b») source (now (session .entry))) ⌝ }
 {
     tell(open_named(source, form, max_l, max_b, session))
 }
@@ -354,7 +366,9 @@ pub extern "C" fn lv_session_offer(
     payload: &[u8],
     lost: &mut usize,
 ) -> u8
-    ensures { λ r. ⌜ (countTold r (now (lost .exit)) ≡ takenAfter (offerAnswer evrc (now (session .entry)) source sequence timestamp (now (payload .entry))) (now (lost .entry))) × (now (session .exit) ≡ offerOctets evrc (now (session .entry)) source sequence timestamp (now (payload .entry))) ⌝ }
+    ensures { λ r. ⌜ (countTold r (now (lost .exit))
+        ≡ takenAfter (offerAnswer evrc (now (session .entry)) source sequence timestamp (now (payload .entry))) (now (lost .entry)))
+        × (now (session .exit) ≡ offerOctets evrc (now (session .entry)) source sequence timestamp (now (payload .entry))) ⌝ }
 {
     tell_taken(
         lending::offer(session, source, sequence, timestamp, payload),
@@ -365,7 +379,10 @@ pub extern "C" fn lv_session_offer(
 // Pours the held group of a session, and ends it.
 #[no_mangle]
 pub extern "C" fn lv_session_pour(session: &mut [u8], out: &mut [u8], written: &mut usize) -> u8
-    ensures { λ r. ⌜ (writeTold r (now (written .exit)) (now (out .exit)) ≡ writeAfter (pourOf evrc (now (session .entry))) (now (written .entry)) (now (out .entry))) × (now (session .exit) ≡ pourOctets (now (session .entry)) (writtenOf (pourOf evrc (now (session .entry))) (now (out .entry)))) ⌝ }
+    ensures { λ r. ⌜ (writeTold r (now (written .exit)) (now (out .exit))
+        ≡ writeAfter (pourOf evrc (now (session .entry))) (now (written .entry)) (now (out .entry)))
+        × (now (session .exit)
+        ≡ pourOctets (now (session .entry)) (writtenOf (pourOf evrc (now (session .entry))) (now (out .entry)))) ⌝ }
 {
     tell_written(lending::pour(session, out), written)
 }
@@ -373,7 +390,8 @@ pub extern "C" fn lv_session_pour(session: &mut [u8], out: &mut [u8], written: &
 // Copies the held group of a session out.
 #[no_mangle]
 pub extern "C" fn lv_session_copy(session: &[u8], holding: &mut [u8]) -> u8
-    ensures { λ r. ⌜ (r ≡ answerNumber (copyAnswer evrc (now (session .entry)) (now (holding .entry)))) × (now (holding .exit) ≡ copyOctets evrc (now (session .entry)) (now (holding .entry))) ⌝ }
+    ensures { λ r. ⌜ (r ≡ answerNumber (copyAnswer evrc (now (session .entry)) (now (holding .entry))))
+        × (now (holding .exit) ≡ copyOctets evrc (now (session .entry)) (now (holding .entry))) ⌝ }
 {
     tell(lending::copy_out(session, holding))
 }
@@ -381,7 +399,8 @@ pub extern "C" fn lv_session_copy(session: &[u8], holding: &mut [u8]) -> u8
 // Ends a session.
 #[no_mangle]
 pub extern "C" fn lv_session_end(session: &mut [u8]) -> u8
-    ensures { λ r. ⌜ (r ≡ answerNumber (endAnswer (now (session .entry)))) × (now (session .exit) ≡ endOctets (now (session .entry))) ⌝ }
+    ensures { λ r. ⌜ (r ≡ answerNumber (endAnswer (now (session .entry))))
+        × (now (session .exit) ≡ endOctets (now (session .entry))) ⌝ }
 {
     tell(lending::end(session))
 }
@@ -389,7 +408,8 @@ pub extern "C" fn lv_session_end(session: &mut [u8]) -> u8
 // Joins two holdings.
 #[no_mangle]
 pub extern "C" fn lv_holding_join(a: &[u8], b: &[u8], out: &mut [u8]) -> u8
-    ensures { λ r. ⌜ (r ≡ answerNumber (joinAnswer evrc (now (a .entry)) (now (b .entry)) (now (out .entry)))) × (now (out .exit) ≡ joinOctets evrc (now (a .entry)) (now (b .entry)) (now (out .entry))) ⌝ }
+    ensures { λ r. ⌜ (r ≡ answerNumber (joinAnswer evrc (now (a .entry)) (now (b .entry)) (now (out .entry))))
+        × (now (out .exit) ≡ joinOctets evrc (now (a .entry)) (now (b .entry)) (now (out .entry))) ⌝ }
 {
     tell(lending::join(a, b, out))
 }
@@ -397,7 +417,8 @@ pub extern "C" fn lv_holding_join(a: &[u8], b: &[u8], out: &mut [u8]) -> u8
 // Pours a holding.
 #[no_mangle]
 pub extern "C" fn lv_holding_pour(holding: &[u8], out: &mut [u8], written: &mut usize) -> u8
-    ensures { λ r. ⌜ writeTold r (now (written .exit)) (now (out .exit)) ≡ writeAfter (pourHeld evrc (now (holding .entry))) (now (written .entry)) (now (out .entry)) ⌝ }
+    ensures { λ r. ⌜ writeTold r (now (written .exit)) (now (out .exit))
+        ≡ writeAfter (pourHeld evrc (now (holding .entry))) (now (written .entry)) (now (out .entry)) ⌝ }
 {
     tell_written(lending::pour_holding(holding, out), written)
 }

@@ -16,8 +16,11 @@ ghost use lib.ListN.{length, take, drop};
 ghost use Rattle.octets.specs.Octets.{over, shifted};
 ghost use Rattle.frame.specs.Table.{evrc};
 ghost use Rattle.frame.specs.Outputs.{Writes};
-ghost use Rattle.lending.specs.Laid.{flagOctet, isSet, numberOctets, frameOctets, holdingOctets, holdingAt, flagsAt, holdingIn, holdingLaid, formOctets, formAt, sessionHead, sessionLaid, sessionAt, headRight, sessionIn};
-ghost use Rattle.lending.specs.Calls.{openAnswer, openOctets, offerAnswer, offerOctets, pourOf, pourOctets, copyAnswer, copyOctets, endAnswer, endOctets, joinAnswer, joinOctets, pourHeld};
+ghost use Rattle.lending.specs.Laid.{flagOctet, isSet, numberOctets, frameOctets, holdingOctets, holdingAt, flagsAt};
+ghost use Rattle.lending.specs.Laid.{holdingIn, holdingLaid, formOctets, formAt, sessionHead, sessionLaid, sessionAt};
+ghost use Rattle.lending.specs.Laid.{headRight, sessionIn};
+ghost use Rattle.lending.specs.Calls.{openAnswer, openOctets, offerAnswer, offerOctets, pourOf, pourOctets};
+ghost use Rattle.lending.specs.Calls.{copyAnswer, copyOctets, endAnswer, endOctets, joinAnswer, joinOctets, pourHeld};
 
 // The octets of a session, and of a holding.
 pub const OCTETS: usize = 2048;
@@ -296,7 +299,8 @@ fn session_in(lent: &[u8]) -> Session
 
 // Opens a session for a source, in the agreed form, whatever the octets were before.
 pub fn open(session: &mut [u8], source: u32, form: Form) -> Answer
-    ensures { λ r. ⌜ (r ≡ openAnswer (now (session .entry)) source form) × (now (session .exit) ≡ openOctets (now (session .entry)) source form) ⌝ }
+    ensures { λ r. ⌜ (r ≡ openAnswer (now (session .entry)) source form)
+        × (now (session .exit) ≡ openOctets (now (session .entry)) source form) ⌝ }
 {
     if session.len() < OCTETS {
         return Answer::Refused(Refusal::NoRoom);
@@ -322,7 +326,8 @@ pub fn offer(
     timestamp: u32,
     payload: &[u8],
 ) -> Taken
-    ensures { λ r. ⌜ (r ≡ offerAnswer evrc (now (session .entry)) source sequence timestamp (now (payload .entry))) × (now (session .exit) ≡ offerOctets evrc (now (session .entry)) source sequence timestamp (now (payload .entry))) ⌝ }
+    ensures { λ r. ⌜ (r ≡ offerAnswer evrc (now (session .entry)) source sequence timestamp (now (payload .entry)))
+        × (now (session .exit) ≡ offerOctets evrc (now (session .entry)) source sequence timestamp (now (payload .entry))) ⌝ }
 {
     if session.len() < OCTETS {
         return Taken::Refused(Refusal::NoRoom);
@@ -342,7 +347,8 @@ pub fn offer(
 
 // Pours the held group into out and ends it.
 pub fn pour(session: &mut [u8], out: &mut [u8]) -> Written
-    ensures { λ r. ⌜ Writes (pourOf evrc (now (session .entry))) (now (out .entry)) r (now (out .exit)) × (now (session .exit) ≡ pourOctets (now (session .entry)) r) ⌝ }
+    ensures { λ r. ⌜ Writes (pourOf evrc (now (session .entry))) (now (out .entry)) r (now (out .exit))
+        × (now (session .exit) ≡ pourOctets (now (session .entry)) r) ⌝ }
 {
     if session.len() < OCTETS {
         return Written::Refused(Refusal::NoRoom);
@@ -362,7 +368,8 @@ pub fn pour(session: &mut [u8], out: &mut [u8]) -> Written
 
 // Copies the held group out.
 pub fn copy_out(session: &[u8], out: &mut [u8]) -> Answer
-    ensures { λ r. ⌜ (r ≡ copyAnswer evrc (now (session .entry)) (now (out .entry))) × (now (out .exit) ≡ copyOctets evrc (now (session .entry)) (now (out .entry))) ⌝ }
+    ensures { λ r. ⌜ (r ≡ copyAnswer evrc (now (session .entry)) (now (out .entry)))
+        × (now (out .exit) ≡ copyOctets evrc (now (session .entry)) (now (out .entry))) ⌝ }
 {
     if session.len() < OCTETS {
         return Answer::Refused(Refusal::NoRoom);
@@ -395,7 +402,8 @@ pub fn end(session: &mut [u8]) -> Answer
 
 // Joins two holdings.
 pub fn join(a: &[u8], b: &[u8], out: &mut [u8]) -> Answer
-    ensures { λ r. ⌜ (r ≡ joinAnswer evrc (now (a .entry)) (now (b .entry)) (now (out .entry))) × (now (out .exit) ≡ joinOctets evrc (now (a .entry)) (now (b .entry)) (now (out .entry))) ⌝ }
+    ensures { λ r. ⌜ (r ≡ joinAnswer evrc (now (a .entry)) (now (b .entry)) (now (out .entry)))
+        × (now (out .exit) ≡ joinOctets evrc (now (a .entry)) (now (b .entry)) (now (out .entry))) ⌝ }
 {
     if a.len() < OCTETS {
         return Answer::Refused(Refusal::NoRoom);

@@ -45,7 +45,8 @@ fn bodies_size(l: usize, n: usize, b: usize, entries: &[u8]) -> usize
 // Writes the table of contents over out from index 1 on: the same D in all entries, and F in all but the last.
 fn write_table(out: &mut [u8], l: usize, n: usize, b: usize, d: u8, entries: &[u8])
     requires { ⌜ Picked evrc l n b (now entries) × (d ≤ 1) × (1 + b ≤ length (now out)) ⌝ }
-    ensures { λ _. ⌜ now (out .exit) ≡ over (now (out .entry)) 1 (tocOf d (typesOf (packetFrames l n b (groupIn evrc (now (entries .entry)))))) ⌝ }
+    ensures { λ _. ⌜ now (out .exit)
+        ≡ over (now (out .entry)) 1 (tocOf d (typesOf (packetFrames l n b (groupIn evrc (now (entries .entry)))))) ⌝ }
 {
     let mut k: usize = 0;
     while k < b {
@@ -63,8 +64,10 @@ fn write_table(out: &mut [u8], l: usize, n: usize, b: usize, d: u8, entries: &[u
 
 // Writes the bodies over out, behind octet 0 and the table of contents.
 fn write_bodies(out: &mut [u8], l: usize, n: usize, b: usize, entries: &[u8])
-    requires { ⌜ Picked evrc l n b (now entries) × (1 + b + length (bodiesOf (packetFrames l n b (groupIn evrc (now entries)))) ≤ length (now out)) ⌝ }
-    ensures { λ _. ⌜ now (out .exit) ≡ over (now (out .entry)) (1 + b) (bodiesOf (packetFrames l n b (groupIn evrc (now (entries .entry))))) ⌝ }
+    requires { ⌜ Picked evrc l n b (now entries)
+        × (1 + b + length (bodiesOf (packetFrames l n b (groupIn evrc (now entries)))) ≤ length (now out)) ⌝ }
+    ensures { λ _. ⌜ now (out .exit)
+        ≡ over (now (out .entry)) (1 + b) (bodiesOf (packetFrames l n b (groupIn evrc (now (entries .entry))))) ⌝ }
 {
     let mut to = 1 + b;
     let mut k: usize = 0;

@@ -42,8 +42,13 @@ fn pour_size(marks: &[u8], m: usize, b: usize) -> usize
 
 // Writes the entries of frame k of the first m packets from index at on, and gives the index behind them.
 fn pour_row(marks: &[u8], room: &[u8], m: usize, k: usize, out: &mut [u8], at: usize) -> usize
-    requires { ⌜ (length (now marks) ≡ 80) × (length (now room) ≡ 1760) × (m ≤ 8) × (k < 10) × (at + rowSize evrc (now marks) k m ≤ length (now out)) ⌝ }
-    ensures { λ r. ⌜ (r ≡ at + rowSize evrc (now (marks .entry)) k m) × (now (out .exit) ≡ over (now (out .entry)) at (entriesOf (row evrc (now (marks .entry)) (now (room .entry)) k m))) ⌝ }
+    requires { ⌜ (length (now marks) ≡ 80)
+        × (length (now room) ≡ 1760)
+        × (m ≤ 8)
+        × (k < 10)
+        × (at + rowSize evrc (now marks) k m ≤ length (now out)) ⌝ }
+    ensures { λ r. ⌜ (r ≡ at + rowSize evrc (now (marks .entry)) k m)
+        × (now (out .exit) ≡ over (now (out .entry)) at (entriesOf (row evrc (now (marks .entry)) (now (room .entry)) k m))) ⌝ }
 {
     let mut next = at;
     let mut n: usize = 0;
@@ -62,8 +67,13 @@ fn pour_row(marks: &[u8], room: &[u8], m: usize, k: usize, out: &mut [u8], at: u
 
 // Writes the entries of the first b frames of m packets, in time order.
 fn pour_rows(marks: &[u8], room: &[u8], m: usize, b: usize, out: &mut [u8])
-    requires { ⌜ (length (now marks) ≡ 80) × (length (now room) ≡ 1760) × (m ≤ 8) × (b ≤ 10) × (rowsSize evrc (now marks) m b ≤ length (now out)) ⌝ }
-    ensures { λ _. ⌜ now (out .exit) ≡ over (now (out .entry)) 0 (entriesOf (rows evrc (now (marks .entry)) (now (room .entry)) m b)) ⌝ }
+    requires { ⌜ (length (now marks) ≡ 80)
+        × (length (now room) ≡ 1760)
+        × (m ≤ 8)
+        × (b ≤ 10)
+        × (rowsSize evrc (now marks) m b ≤ length (now out)) ⌝ }
+    ensures { λ _. ⌜ now (out .exit)
+        ≡ over (now (out .entry)) 0 (entriesOf (rows evrc (now (marks .entry)) (now (room .entry)) m b)) ⌝ }
 {
     let mut at: usize = 0;
     let mut k: usize = 0;

@@ -12,7 +12,9 @@ ghost use mathlib.Core.Path.{_≡_};
 ghost use Prim.Native.Nat.{_<_};
 ghost use Rattle.frame.specs.Table.{evrc};
 ghost use Rattle.frame.specs.Outputs.{Writes};
-ghost use Rattle.session.specs.Session.{vacant, never, formRight, opening, lastRight, groupRight, isOpen, refuse, accept, withGroup, sameBase, inGroup, begins, noGroup, placed, offered, pourMade, ended, afterPour, noCopy, copied};
+ghost use Rattle.session.specs.Session.{vacant, never, formRight, opening, lastRight, groupRight, isOpen, refuse};
+ghost use Rattle.session.specs.Session.{accept, withGroup, sameBase, inGroup, begins, noGroup, placed, offered};
+ghost use Rattle.session.specs.Session.{pourMade, ended, afterPour, noCopy, copied};
 
 // A session: the source and the agreed form it was opened for, the group it holds (a holding of nothing if it holds none), and
 // the numbers of the last group it poured, if it poured one.
@@ -360,7 +362,8 @@ fn after_group(session: Session) -> Session
 
 // Pours the held group into out and ends it; or refused, and session and output are as they were.
 pub fn pour(session: Session, out: &mut [u8]) -> Poured
-    ensures { λ r. ⌜ Writes (pourMade evrc session) (now (out .entry)) (r .answer) (now (out .exit)) × (r .session ≡ afterPour session (r .answer)) ⌝ }
+    ensures { λ r. ⌜ Writes (pourMade evrc session) (now (out .entry)) (r .answer) (now (out .exit))
+        × (r .session ≡ afterPour session (r .answer)) ⌝ }
 {
     let ready = is_open(session);
     if !ready {

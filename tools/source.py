@@ -75,7 +75,7 @@ def answers():
 
 
 def usage(text, options=(), least=0):
-    """Prints what a tool is for and ends, if it is asked; with status 2 at an option that it does not have or too few words."""
+    """Prints what a tool is for and ends, if it is asked; ends with status 2 at an unknown option or too few words."""
     name, words = os.path.basename(sys.argv[0]), sys.argv[1:]
     if "-h" in words or "--help" in words:
         print(text)

@@ -11,11 +11,12 @@ n=$'\n'
 
 # Two at once: one builds, the other waits and says so.
 two_at_once() { # FOLDER OF COMMANDS
-    rm -rf tree/target tree/words
+    rm -rf tree/target tree/words said_one said_two && touch tree/two
     PATH=$work/$1 tree/record "$whole" one 2>said_one &
     PATH=$work/$1 tree/record "$whole" two 2>said_two
     [ "$?" -eq 0 ] && wait "$!" || wrong "two at once, $1: $(cat said_one said_two)"
     same one "$recorded" && same two "$recorded" && builds 1
+    rm tree/two
     [[ $(sort said_one said_two) =~ ^$waiting$n$ok$n$building$ ]] || wrong "two at once say: $(cat said_one said_two)"
 }
 two_at_once few

@@ -65,7 +65,8 @@ export TMPDIR=$work/tmp
 
 # A copy of what ./record and make need, in the folder tree, with one crate, and stand-ins in tree/bin: rt, which
 # notes its words, takes a second, fails where another one runs, and makes what is in tree/made; apt-get, which is
-# never to be run.
+# never to be run. Where there is tree/two, rt goes on until another build says that it waits; where there is
+# tree/during, a source changes while it runs.
 make_tree() {
     mkdir -p tree/bin tree/made tree/include
     cp -r "$root"/{record,Makefile,landing_voice.pc.in,crates.txt,tools} tree
@@ -78,6 +79,12 @@ make_tree() {
 printf '%s\n' "$*" >>words
 mkdir running || { echo 'rt: NOT PROVED'; exit 1; }
 sleep 1
+tries=0
+while [ -e two ] && [ "$tries" -lt 300 ] && ! grep -qs waiting ../said_one ../said_two; do
+    sleep 0.1
+    tries=$((tries + 1))
+done
+if [ -e during ]; then rm during && touch crates/octets/src; fi
 mkdir -p target/bin target/staticlib
 case $1 in
 check) cp made/recorder target/bin ;;

@@ -3,9 +3,11 @@ import collections
 import glob
 import os
 import re
+import signal
 import sys
 
 ROOT = os.path.join(os.path.dirname(os.path.abspath(__file__)), "..")
+signal.signal(signal.SIGPIPE, signal.SIG_DFL)  # a reader that has enough, as head, ends a tool quietly
 
 # A wrong answer: its crate and file, its three headings, and the texts that it changes, as pairs (file, old).
 Answer = collections.namedtuple("Answer", "crate label name calls what on within olds")

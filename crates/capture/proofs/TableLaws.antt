@@ -12,7 +12,7 @@ use lib.Dec.{eqb, leb}
 use borrow.Author.Tests.{eq-eqb, ne-eqb, eqb-true, le-leb, lt-leb, leb-true, leb-false}
 use Rattle.octets.specs.Octets.{twoAt}
 use Rattle.octets.proofs.Logic.{both-true}
-use Rattle.capture.specs.Table.{countOf, lengthAt, lengths, startAt, ending, tableFault, countFault, faultOf, isNone, good}
+use Rattle.capture.specs.Table.{countOf, lengthAt, lengths, startAt, endFault, tableFault, countFault, faultOf, isNone, good}
 use Rattle.capture.specs.declared.Fault.{Fault}
 use Rattle.capture.specs.declared.Fault.the-variants.{None, TooLong, NoCount, TooManyPackets, TableCut, PayloadsCut, OctetsLeft}
 
@@ -56,30 +56,30 @@ module _ (c : List ℕ) where
             simp (le-leb _ _ short, le-leb _ _ two, le-leb _ _ k, lt-leb _ _ l) (ap (λ (i : ℕ). TableCut (2 + 12 * i)) e)
 
         -- behind a whole table the end decides
-        pub by-end : (total : ℕ) → total ≡ lengths c n → 2 + 12 * n ≤ length c → ending (2 + 12 * n + total) (length c) ≡ faultOf c
+        pub by-end : (total : ℕ) → total ≡ lengths c n → 2 + 12 * n ≤ length c → endFault (2 + 12 * n + total) (length c) ≡ faultOf c
         unfolding faultOf countFault tableFault startAt
         by-end total f h =
             let k : countOf c ≤ 256 = omega arith in
             let l : 2 + 12 * countOf c ≤ length c = omega arith in
             simp (le-leb _ _ short, le-leb _ _ two, le-leb _ _ k, le-leb _ _ l)
-            (ap₂ (λ (i j : ℕ). ending (2 + 12 * i + j) (length c)) e (f ∙ ap (lengths c) e))
+            (ap₂ (λ (i j : ℕ). endFault (2 + 12 * i + j) (length c)) e (f ∙ ap (lengths c) e))
 
-pub ends-late : (end n : ℕ) → n < end → PayloadsCut end ≡ ending end n
-unfolding ending
+pub ends-late : (end n : ℕ) → n < end → PayloadsCut end ≡ endFault end n
+unfolding endFault
 ends-late end n h = simp (ne-eqb end n (λ (e : end ≡ n). absurd (omega arith)), lt-leb _ _ h)
 
-pub ends-early : (end n : ℕ) → end < n → OctetsLeft end ≡ ending end n
-unfolding ending
+pub ends-early : (end n : ℕ) → end < n → OctetsLeft end ≡ endFault end n
+unfolding endFault
 ends-early end n h = let k : end ≤ n = omega arith in simp (ne-eqb end n (λ (e : end ≡ n). absurd (omega arith)), le-leb _ _ k)
 
-pub ends-there : (end n : ℕ) → end ≤ n → n ≤ end → None ≡ ending end n
-unfolding ending
+pub ends-there : (end n : ℕ) → end ≤ n → n ≤ end → None ≡ endFault end n
+unfolding endFault
 ends-there end n h k = let e : end ≡ n = omega arith in simp (eq-eqb _ _ e)
 
 -- what ends where its octets end has no fault, and nothing else
-ending-none : (end n : ℕ) → isNone (ending end n) ≡ eqb end n
-unfolding ending
-ending-none end n = go (eqb end n) (leb end n)
+end-none : (end n : ℕ) → isNone (endFault end n) ≡ eqb end n
+unfolding endFault
+end-none end n = go (eqb end n) (leb end n)
   where
     go : (s t : Bool) → isNone (cond s None (cond t (OctetsLeft end) (PayloadsCut end))) ≡ s
     go true t = refl
@@ -91,26 +91,27 @@ not-there : (c : List ℕ) → length c < 2 + 12 * countOf c → eqb (startAt c 
 unfolding startAt
 not-there c h = ne-eqb (startAt c (countOf c)) (length c) (λ (e : startAt c (countOf c) ≡ length c). absurd (omega arith))
 
--- a capture is good exactly if nothing is wrong with it
-pub good-if-none : (c : List ℕ) → isNone (faultOf c) ≡ good c
+-- a capture: at most 65,536 octets and 256 packets, and it ends where its last payload does
+pub good-means : (c : List ℕ) → good c ≡ (leb (length c) 65536 && leb (countOf c) 256 && eqb (startAt c (countOf c)) (length c))
 unfolding faultOf countFault tableFault good
-good-if-none c =
+good-means c =
     go (leb (length c) 65536) (leb 2 (length c)) (leb (countOf c) 256) (leb (2 + 12 * countOf c) (length c))
     (λ e. let h : length c < 2 = leb-false _ _ e in not-there c (omega arith)) (λ e. not-there c (leb-false _ _ e))
   where
     go : (s w m t : Bool) → (w ≡ false → eqb (startAt c (countOf c)) (length c) ≡ false) →
         (t ≡ false → eqb (startAt c (countOf c)) (length c) ≡ false) →
-        isNone (cond s (cond w (cond m (cond t (ending (startAt c (countOf c)) (length c)) (TableCut (2 + 12 * countOf c))) (TooManyPackets (countOf c))) NoCount) TooLong)
+        isNone (cond s (cond w (cond m (cond t (endFault (startAt c (countOf c)) (length c)) (TableCut (2 + 12 * countOf c))) (TooManyPackets (countOf c))) NoCount) TooLong)
         ≡ (s && m && eqb (startAt c (countOf c)) (length c))
     go false w m t h k = refl
     go true false false t h k = refl
     go true false true t h k = sym (h refl)
     go true true false t h k = refl
     go true true true false h k = sym (k refl)
-    go true true true true h k = ending-none _ _
+    go true true true true h k = end-none _ _
 
 pub good-by : (c : List ℕ) (found known : Fault) → found ≡ faultOf c → found ≡ known → isNone known ≡ good c
-good-by c found known e k = ap isNone (sym k ∙ e) ∙ good-if-none c
+unfolding good
+good-by c found known e k = ap isNone (sym k ∙ e)
 
 -- a capture that is good
 pub record Good (c : List ℕ) : Type 0 where
@@ -119,9 +120,8 @@ pub record Good (c : List ℕ) : Type 0 where
   pub whole : startAt c (countOf c) ≡ length c
 
 pub good-is : (c : List ℕ) → good c ≡ true → Good c
-unfolding good
 good-is c e =
-    let h = both-true (leb (length c) 65536 && leb (countOf c) 256) (eqb (startAt c (countOf c)) (length c)) e in
+    let h = both-true (leb (length c) 65536 && leb (countOf c) 256) (eqb (startAt c (countOf c)) (length c)) (sym (good-means c) ∙ e) in
     let k = both-true (leb (length c) 65536) (leb (countOf c) 256) (h .0) in
     record { short = leb-true _ _ (k .0); few = leb-true _ _ (k .1); whole = eqb-true _ _ (h .1) }
 

@@ -1,6 +1,6 @@
 -- Document 01, "Capture program": a capture's count, its table and its payloads.
 use Prim.Native.Nat.{ℕ, zero, suc, _+_, _*_}
-use mathlib.Core.Bool.{Bool, true, false, cond, _&&_}
+use mathlib.Core.Bool.{Bool, true, false, cond}
 use mathlib.Core.List.{List}
 use lib.ListN.{length, take, drop}
 use lib.Dec.{eqb, leb}
@@ -48,12 +48,12 @@ unfoldable pub packetsIn : List ℕ → List Heard
 packetsIn c = upTo (heardAt c) (countOf c)
 
 -- "then all payloads in table order, nothing after": n octets end where the last payload does, or are cut, or left over
-unfoldable pub ending : ℕ → ℕ → Fault
-ending end n = cond (eqb end n) None (cond (leb end n) (OctetsLeft end) (PayloadsCut end))
+unfoldable pub endFault : ℕ → ℕ → Fault
+endFault end n = cond (eqb end n) None (cond (leb end n) (OctetsLeft end) (PayloadsCut end))
 
 -- "then its table, per packet source (4), sequence (2), timestamp (4), length (2)"
 unfoldable pub tableFault : List ℕ → Fault
-tableFault c = cond (leb (2 + 12 * countOf c) (length c)) (ending (startAt c (countOf c)) (length c)) (TableCut (2 + 12 * countOf c))
+tableFault c = cond (leb (2 + 12 * countOf c) (length c)) (endFault (startAt c (countOf c)) (length c)) (TableCut (2 + 12 * countOf c))
 
 -- "count (2, at most 256)"
 unfoldable pub countFault : List ℕ → Fault
@@ -73,7 +73,6 @@ isNone (TableCut n) = false
 isNone (PayloadsCut n) = false
 isNone (OctetsLeft n) = false
 
--- "A capture is at most 65,536 octets": at most 256 packets, and the last payload ends where the capture ends, "nothing after"
--- (octets that are not there read as 0, and a table that is cut ends behind the capture)
+-- "A bad capture": one in which a fault is found
 unfoldable pub good : List ℕ → Bool
-good c = leb (length c) 65536 && leb (countOf c) 256 && eqb (startAt c (countOf c)) (length c)
+good c = isNone (faultOf c)

@@ -13,7 +13,7 @@ ghost use lib.ListN.{length, replicate};
 ghost use lib.Dec.{leb};
 ghost use Rattle.frame.specs.Table.{evrc, erasure};
 ghost use Rattle.recording.specs.Recording.{evrcOpening};
-ghost use Rattle.capture.specs.Table.{countOf, lengthAt, lengths, startAt, heardAt, packetsIn, faultOf, good};
+ghost use Rattle.capture.specs.Table.{countOf, lengthAt, lengths, startAt, heardAt, packetsIn, endFault, faultOf, good};
 ghost use Rattle.capture.specs.Run.{firstSession, offeredTo, lostIn, largest, takenOf, isTwelve, pouring, stepOf};
 ghost use Rattle.capture.specs.Run.{runOf, recordingOf, Put, Does, recorded, outputOf};
 
@@ -74,6 +74,19 @@ pub enum Fault {
     OctetsLeft(usize),
 }
 
+// Where the last payload ends, so many octets end too, or are cut, or are left over.
+fn end_fault(end: usize, octets: usize) -> Fault
+    ensures { λ r. ⌜ r ≡ endFault end octets ⌝ }
+{
+    if octets < end {
+        return Fault::PayloadsCut(end);
+    }
+    if end < octets {
+        return Fault::OctetsLeft(end);
+    }
+    Fault::None
+}
+
 // Why these octets are no capture, or that they are one.
 pub fn judge(capture: &[u8]) -> Fault
     ensures { λ r. ⌜ r ≡ faultOf (now (capture .entry)) ⌝ }
@@ -92,14 +105,7 @@ pub fn judge(capture: &[u8]) -> Fault
     if capture.len() < table {
         return Fault::TableCut(table);
     }
-    let end = table + payload_octets(capture, count);
-    if capture.len() < end {
-        return Fault::PayloadsCut(end);
-    }
-    if end < capture.len() {
-        return Fault::OctetsLeft(end);
-    }
-    Fault::None
+    end_fault(table + payload_octets(capture, count), capture.len())
 }
 
 // Whether these octets are a capture.

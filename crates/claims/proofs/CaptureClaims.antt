@@ -21,10 +21,10 @@ use Rattle.capture.specs.Table.{Heard, packetsIn}
 use Rattle.capture.specs.Run.{Step, andThen, captureForm, firstSession, offeredTo, takenOf, offering, pouredOf, pouring, isTwelve, stepOf, runOf, recordedOf, recordingOf}
 use Rattle.capture.proofs.Largest.{step-source}
 use Rattle.capture.proofs.RunLaws.{largest-is}
-use Rattle.capture.proofs.TableLaws.{good-if-none}
+use Rattle.capture.proofs.TableLaws.{good-means}
 use Rattle.claims.specs.Demand3.{Demand3, Sent, Ready, offerOne, offerAll, AllAccepted}
 use Rattle.claims.specs.Sessions.{lostBefore}
-use Rattle.claims.specs.Captures.{heardOf, GroupIsRecorded, fromSource, FirstSourceAlone, OthersAreNotHeard, NoPacketGivesOpening, NothingIsLarger, FaultExactlyIfBad}
+use Rattle.claims.specs.Captures.{heardOf, GroupIsRecorded, fromSource, FirstSourceAlone, OthersAreNotHeard, NoPacketGivesOpening, NothingIsLarger, CaptureExactlyIf}
 use Rattle.claims.proofs.Demand3Claims.{demand-3}
 use Rattle.claims.proofs.SessionClaims.{fresh-open}
 
@@ -105,6 +105,6 @@ group-is-recorded v r g n ns h o c e =
       erased = d .places .erased;
     }
 
-pub fault-exactly-if-bad : FaultExactlyIfBad
-unfolding FaultExactlyIfBad
-fault-exactly-if-bad c = good-if-none c
+pub capture-exactly-if : CaptureExactlyIf
+unfolding CaptureExactlyIf
+capture-exactly-if c = good-means c

@@ -23,7 +23,7 @@ use Rattle.claims.proofs.JoiningClaims.{else-they-join, nothing-lost, n
 use Rattle.claims.proofs.JoiningClaims.{every-place-in-time, evrc-has-room}
 use Rattle.claims.proofs.BoxesClaims.{boxes-join}
 use Rattle.claims.proofs.CaptureClaims.{group-is-recorded, first-source-alone, others-are-not-heard}
-use Rattle.claims.proofs.CaptureClaims.{no-packet-gives-opening, nothing-is-larger, fault-exactly-if-bad}
+use Rattle.claims.proofs.CaptureClaims.{no-packet-gives-opening, nothing-is-larger, capture-exactly-if}
 use Rattle.claims.proofs.CaptureReads.{gives-a-recording}
 use Rattle.claims.proofs.Marked.{marked-examples}
 use Rattle.claims.proofs.IdleClaims.{refuses-everything, pours-erasures, stores-nothing, nods-at-later}
@@ -78,13 +78,13 @@ promised = record {
   evrc-has-room = evrc-has-room;
   copied-out = copied-out;
   boxes-join = boxes-join;
+  capture-exactly-if = capture-exactly-if;
   group-is-recorded = group-is-recorded;
   first-source-alone = first-source-alone;
   others-are-not-heard = others-are-not-heard;
   gives-a-recording = gives-a-recording;
   no-packet-gives-opening = no-packet-gives-opening;
   nothing-is-larger = nothing-is-larger;
-  fault-exactly-if-bad = fault-exactly-if-bad;
   marked-examples = marked-examples;
   refuses-everything = refuses-everything;
   pours-erasures = pours-erasures;

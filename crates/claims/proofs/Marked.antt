@@ -11,7 +11,7 @@ use Rattle.holding.specs.Group.{nothing, begun, isNothing, blank, withPacket, s
 use Rattle.holding.specs.LaidOut.{laid, filled, rooms}
 use Rattle.pouring.specs.Pouring.{frameIn, row, rows, poured}
 use Rattle.session.specs.Session.{vacant, fresh, formRight, lastRight, groupRight, isOpen, refuse, accept, withGroup, sameBase, begins, noGroup, placed, arrival, judged, offered, pourMade, ended, afterLast}
-use Rattle.capture.specs.Table.{good, startAt, lengths, heardAt, packetsIn}
+use Rattle.capture.specs.Table.{endFault, tableFault, countFault, faultOf, good, startAt, lengths, heardAt, packetsIn}
 use Rattle.capture.specs.Run.{captureForm, firstSession, offeredTo, takenOf, offering, pouredOf, pouring, isTwelve, stepOf, runOf, recordedOf, recordingOf, andThen}
 use Rattle.claims.specs.Examples.{MarkedExamples, P15, WholeCase}
 
@@ -24,7 +24,7 @@ p15 = record {
 }
 
 whole-case : WholeCase
-unfolding rowOf toc bodies interleaved readAs inGroup atDistance twoAt fourAt over anySet sameOctets allZero upTo nothing begun isNothing blank withPacket samePackets erased markAt mayStand frameRight framesRight heldAt packetOf packetRight rightAt sound holds allBelow region laid filled rooms frameIn row rows poured vacant fresh formRight lastRight groupRight isOpen refuse accept withGroup sameBase begins noGroup placed arrival judged offered pourMade ended afterLast good startAt lengths heardAt packetsIn captureForm firstSession offeredTo takenOf offering pouredOf pouring isTwelve stepOf runOf recordedOf recordingOf andThen
+unfolding rowOf toc bodies interleaved readAs inGroup atDistance twoAt fourAt over anySet sameOctets allZero upTo nothing begun isNothing blank withPacket samePackets erased markAt mayStand frameRight framesRight heldAt packetOf packetRight rightAt sound holds allBelow region laid filled rooms frameIn row rows poured vacant fresh formRight lastRight groupRight isOpen refuse accept withGroup sameBase begins noGroup placed arrival judged offered pourMade ended afterLast endFault tableFault countFault faultOf good startAt lengths heardAt packetsIn captureForm firstSession offeredTo takenOf offering pouredOf pouring isTwelve stepOf runOf recordedOf recordingOf andThen
 whole-case = record { heard = record { whole = refl; recording = refl }; lost = record { whole = refl; recording = refl } }
 
 pub marked-examples : MarkedExamples

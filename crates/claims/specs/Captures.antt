@@ -2,8 +2,8 @@
 use Prim.Native.Nat.{ℕ, _+_, _*_, _%_, _≤_, _<_}
 use mathlib.Core.Path.{_≡_}
 use mathlib.Core.List.{List, [], _∷_, _++_, map}
-use mathlib.Core.Bool.{true, false, cond}
-use lib.Dec.{T, eqb}
+use mathlib.Core.Bool.{true, false, cond, _&&_}
+use lib.Dec.{T, eqb, leb}
 use lib.ListN.{length}
 use Rattle.frame.specs.Table.{Vocoder, Frame, evrc, erasure, single}
 use Rattle.frame.specs.Places.{frameAt}
@@ -12,7 +12,7 @@ use Rattle.packet.specs.Packet.{placeOf}
 use Rattle.recording.specs.Entries.{entriesOf}
 use Rattle.recording.specs.Entries as entries
 use Rattle.recording.specs.Recording.{evrcOpening, recorded}
-use Rattle.capture.specs.Table.{Heard, countOf, packetsIn, faultOf, isNone, good}
+use Rattle.capture.specs.Table.{Heard, countOf, startAt, packetsIn, good}
 use Rattle.capture.specs.Run.{captureForm, recordedOf, recordingOf, largest}
 use Rattle.claims.specs.Packets.{narrow}
 use Rattle.claims.specs.Joinings.{HasRoom}
@@ -73,6 +73,7 @@ NoPacketGivesOpening = (v : Vocoder) (opening c : List ℕ) → countOf c ≡ 0 
 unfoldable pub NothingIsLarger : Type 0
 NothingIsLarger = (c : List ℕ) → good c ≡ true → length (recordingOf evrc evrcOpening c) ≤ largest
 
--- a capture is bad exactly if `capture::judge` finds why: the reason told to a person is never beside the point
-unfoldable pub FaultExactlyIfBad : Type 0
-FaultExactlyIfBad = (c : List ℕ) → isNone (faultOf c) ≡ good c
+-- octets are a capture, and no fault is told of them, exactly if they are "at most 65,536", name "at most 256" packets, and the last
+-- payload ends where they end, "nothing after" (octets that are not there read as 0)
+unfoldable pub CaptureExactlyIf : Type 0
+CaptureExactlyIf = (c : List ℕ) → good c ≡ (leb (length c) 65536 && leb (countOf c) 256 && eqb (startAt c (countOf c)) (length c))

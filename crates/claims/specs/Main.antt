@@ -17,7 +17,7 @@ use Rattle.claims.specs.Boxes.{CopiedOut, BoxesJoin}
 use Rattle.claims.specs.Joinings.{EveryOrderAndGrouping, EveryPermutation, WithItself, DifferenceEndsIn14, ElseTheyJoin}
 use Rattle.claims.specs.Joinings.{NothingLost, NothingInvented, EqualKnowledge, EveryPlaceInTime, EvrcHasRoom}
 use Rattle.claims.specs.Captures.{GroupIsRecorded, FirstSourceAlone, OthersAreNotHeard, GivesARecording}
-use Rattle.claims.specs.Captures.{NoPacketGivesOpening, NothingIsLarger, FaultExactlyIfBad}
+use Rattle.claims.specs.Captures.{NoPacketGivesOpening, NothingIsLarger, CaptureExactlyIf}
 use Rattle.claims.specs.Examples.{MarkedExamples}
 use Rattle.claims.specs.Idle.{RefusesEverything, PoursErasures, StoresNothing}
 use Rattle.claims.specs.Idle.{NodsAtLater, InventsLostFrames, InventsOctetCounts}
@@ -81,13 +81,13 @@ pub record Promised : Type 0 where
   pub copied-out : CopiedOut
   pub boxes-join : BoxesJoin
   -- "a small program that turns a capture into a recording"
+  pub capture-exactly-if : CaptureExactlyIf
   pub group-is-recorded : GroupIsRecorded
   pub first-source-alone : FirstSourceAlone
   pub others-are-not-heard : OthersAreNotHeard
   pub gives-a-recording : GivesARecording
   pub no-packet-gives-opening : NoPacketGivesOpening
   pub nothing-is-larger : NothingIsLarger
-  pub fault-exactly-if-bad : FaultExactlyIfBad
   -- document 01, "Marked examples"
   pub marked-examples : MarkedExamples
   -- document 01, "What the promises have to say": the idle builds, and that any two outcomes allowed are equal

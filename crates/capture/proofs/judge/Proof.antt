@@ -1,7 +1,7 @@
 -- `capture::judge` meets its contract.
 use mathlib.Core.Path.{_∙_}
 use borrow.Author.Needs.{needs}
-use Rattle.capture.proofs.TableLaws.{too-long, no-count, too-many, table-cut, by-end, ends-late, ends-early, ends-there}
+use Rattle.capture.proofs.TableLaws.{too-long, no-count, too-many, table-cut, by-end}
 use Rattle.capture.proofs.judge.Statement.{statement}
 use Rattle.capture.proofs.judge.Tie as tie
 
@@ -32,17 +32,14 @@ returns-4 c = table-cut _ (c .before .before .before .before .if1 .left) (c .bef
 payload-octets-requires : tie.Need-payload-octets-requires
 payload-octets-requires c κs = search needs
 
-add-end : tie.Need-add-end
-add-end c = search needs
+add-end-fault : tie.Need-add-end-fault
+add-end-fault c = search needs
+
+end-fault-requires : tie.Need-end-fault-requires
+end-fault-requires c κs = search needs
 
 returns-5 : tie.Need-returns-5
-returns-5 c = ends-late _ _ (c .if5 .taken) ∙ by-end _ (c .before .before .before .before .before .before .if1 .left) (c .before .before .before .before .before .if2 .left) _ (c .before .before .before .before .two .ensures) (c .before .before .before .if3 .left) _ (c .before .payload-octets .ensures .0) (c .before .before .if4 .left)
-
-returns-6 : tie.Need-returns-6
-returns-6 c = ends-early _ _ (c .if6 .taken) ∙ by-end _ (c .before .before .before .before .before .before .before .if1 .left) (c .before .before .before .before .before .before .if2 .left) _ (c .before .before .before .before .before .two .ensures) (c .before .before .before .before .if3 .left) _ (c .before .before .payload-octets .ensures .0) (c .before .before .before .if4 .left)
-
-returns-7 : tie.Need-returns-7
-returns-7 c = ends-there _ _ (c .before .if5 .left) (c .if6 .left) ∙ by-end _ (c .before .before .before .before .before .before .before .if1 .left) (c .before .before .before .before .before .before .if2 .left) _ (c .before .before .before .before .before .two .ensures) (c .before .before .before .before .if3 .left) _ (c .before .before .payload-octets .ensures .0) (c .before .before .before .if4 .left)
+returns-5 c = c .end-fault .ensures ∙ by-end _ (c .before .before .before .before .before .before .if1 .left) (c .before .before .before .before .before .if2 .left) _ (c .before .before .before .before .two .ensures) (c .before .before .before .if3 .left) _ (c .before .payload-octets .ensures .0) (c .before .before .if4 .left)
 
 pub judge-spec : {M : Type 1} → statement M
 judge-spec =
@@ -57,7 +54,6 @@ judge-spec =
     add-table
     returns-4
     payload-octets-requires
-    add-end
-    returns-5
-    returns-6
-    returns-7)
+    add-end-fault
+    end-fault-requires
+    returns-5)

@@ -24,8 +24,8 @@
 #include <stdint.h>
 
 /* The version in words; and as a number to be compared, 10000 x major + 100 x minor + patch. */
-#define LV_VERSION "1.1.0"
-#define LV_VERSION_NUMBER 10100
+#define LV_VERSION "2.0.0"
+#define LV_VERSION_NUMBER 20000
 
 #ifdef __cplusplus
 extern "C" {
@@ -83,8 +83,8 @@ enum lv_type {
 enum lv_size {
     LV_BODY_MAX = 22,             /* octets of the longest body */
     LV_OPENING_OCTETS = 7,        /* a recording opens with 23 21 45 56 52 43 0A: "#!EVRC" and a newline */
-    LV_SESSION_OCTETS = 2048,     /* octets of a session */
-    LV_HOLDING_OCTETS = 2048,     /* octets of a holding */
+    LV_SESSION_OCTETS = 2304,     /* octets of a session */
+    LV_HOLDING_OCTETS = 2304,     /* octets of a holding */
     LV_POURED_MAX = 1840,         /* octets of a poured group */
     LV_LOST_MAX = 1000,           /* frames lost before a group */
     LV_CAPTURE_MAX = 65536,       /* octets of a capture */
@@ -181,20 +181,21 @@ uint8_t lv_capture_record(const uint8_t *capture, size_t len, uint8_t *out, size
  * group as far as heard. The octets are the library's own: the host lends them, copies them and compares
  * them whole, but does not look into them. A wholly zero session is one never opened; a wholly zero
  * holding holds no packet. Equal knowledge is equal octets. A call that accepts writes all
- * LV_SESSION_OCTETS or LV_HOLDING_OCTETS of what it changes, and leaves octets past them as they are; a
- * buffer with fewer answers 15 before all else. Octets that no call has written count as a session that is
- * not open, or as a holding of no packet, wherever they break the library's rules. */
+ * LV_SESSION_OCTETS or LV_HOLDING_OCTETS of what it changes, and leaves octets past them as they are; an
+ * output with fewer answers 15, after every other refusal. Fewer octets than that, given to be read, are no
+ * session and no holding: 21. So are octets that no call has written, wherever they break the library's
+ * rules; octets that stand for nothing are zero. An accepted repeat changes no octet. */
 
 /* Opens a session for a source in the agreed form, whatever the octets were: a fresh session that holds no
  * group and remembers none.
- * Refuses, in this order: 15 (len below LV_SESSION_OCTETS), 21 (no such form, maxima out of range). */
+ * Refuses, in this order: 21 (no such form, maxima out of range), 15 (len below LV_SESSION_OCTETS). */
 uint8_t lv_session_open(uint32_t source, uint8_t form, uint8_t max_l, uint8_t max_b, uint8_t *session,
                         size_t len);
 
 /* Offers a packet to a session. On LV_OK: it is held, or was already, and *lost is the number of frames
  * lost before the group that it begins, at most LV_LOST_MAX; 0 if it begins none.
- * Refuses, in this order: 15 (len below LV_SESSION_OCTETS), 21 (not open), 10, the payload's refusals (1
- * to 9); then by its place 11, 12, 13, 14, 16. After 12 the host pours the group and offers the packet
+ * Refuses, in this order: 21 (not open, or len below LV_SESSION_OCTETS), 10, the payload's refusals (1 to
+ * 9); then by its place 11, 12, 13, 14, 16. After 12 the host pours the group and offers the packet
  * again. */
 uint8_t lv_session_offer(uint8_t *session, size_t len, uint32_t source, uint16_t sequence, uint32_t timestamp,
                          const uint8_t *payload, size_t payload_len, size_t *lost);
@@ -202,14 +203,14 @@ uint8_t lv_session_offer(uint8_t *session, size_t len, uint32_t source, uint16_t
 /* Pours the group that a session holds, and ends it: its frames in time order as recording entries, those
  * not heard as erasures. The session remembers the group's numbers, and counts from them what is lost. On
  * LV_OK: *written is the number of octets written to out, at most LV_POURED_MAX.
- * Refuses, in this order: 15 (len below LV_SESSION_OCTETS), 21 (not open, or no group held), 15 (out_len
- * too small). */
+ * Refuses, in this order: 21 (not open, len below LV_SESSION_OCTETS, or no group held), 15 (out_len too
+ * small). */
 uint8_t lv_session_pour(uint8_t *session, size_t len, uint8_t *out, size_t out_len, size_t *written);
 
 /* Copies the group that a session holds out as a holding. The session stays as it is: it still holds the
  * group.
- * Refuses, in this order: 15 (len below LV_SESSION_OCTETS, or holding_len below LV_HOLDING_OCTETS), 21
- * (not open, or no group held). */
+ * Refuses, in this order: 21 (not open, len below LV_SESSION_OCTETS, or no group held), 15 (holding_len
+ * below LV_HOLDING_OCTETS). */
 uint8_t lv_session_copy(const uint8_t *session, size_t len, uint8_t *holding, size_t holding_len);
 
 /* Ends a session, whatever the octets were: all LV_SESSION_OCTETS become zero.
@@ -217,13 +218,13 @@ uint8_t lv_session_copy(const uint8_t *session, size_t len, uint8_t *holding, si
 uint8_t lv_session_end(uint8_t *session, size_t len);
 
 /* Joins two holdings of one group: out holds every packet held in either. The two stay as they are.
- * Refuses, in this order: 15 (a_len, b_len or out_len below LV_HOLDING_OCTETS), 21 (either holds no
- * packet), 20, 14. */
+ * Refuses, in this order: 21 (either holds no packet, or has fewer octets than LV_HOLDING_OCTETS), 20, 14,
+ * 15 (out_len below LV_HOLDING_OCTETS). */
 uint8_t lv_holding_join(const uint8_t *a, size_t a_len, const uint8_t *b, size_t b_len, uint8_t *out,
                         size_t out_len);
 
 /* Pours a holding, copied or joined, as lv_session_pour does. The holding stays as it is.
- * Refuses, in this order: 15 (len below LV_HOLDING_OCTETS), 21 (it holds no packet), 15 (out_len too
+ * Refuses, in this order: 21 (it holds no packet, or len is below LV_HOLDING_OCTETS), 15 (out_len too
  * small). */
 uint8_t lv_holding_pour(const uint8_t *holding, size_t len, uint8_t *out, size_t out_len, size_t *written);
 

@@ -1,5 +1,5 @@
 //! Offers and pours 10,000 groups of L 5 and B 10: the same work as ../calls.c, which goes through the library's C calls, in plain Rust.
-//! The session lies in 2,048 lent octets as the library's does, and is judged at each call by the same rules; it is changed in place.
+//! The session lies in 2,304 lent octets as the library's does, and is judged at each call by the same rules; it is changed in place.
 //! Writes the number of octets poured and a sum over all of them on standard output, and the nanoseconds that it took on standard error.
 mod table;
 
@@ -7,11 +7,12 @@ use std::time::Instant;
 
 use table::size;
 
-const GROUP: usize = 16;
-const HELD: usize = GROUP + 12;
-const MARKS: usize = GROUP + 20;
-const ROOM: usize = GROUP + 100;
-const END: usize = GROUP + 1860;
+const OCTETS: usize = 2304;
+const GROUP: usize = 32;
+const HELD: usize = GROUP + 16;
+const MARKS: usize = GROUP + 32;
+const ROOM: usize = GROUP + 112;
+const END: usize = GROUP + 1872;
 
 fn zeros(octets: &[u8]) -> bool {
     octets.iter().all(|&octet| octet == 0)
@@ -65,12 +66,29 @@ fn holds_packet(s: &[u8]) -> bool {
         && s[HELD..HELD + 8].contains(&1)
 }
 
+/// What stands for nothing is zero.
+fn spare_right(s: &[u8]) -> bool {
+    (s[1] == 1 || zeros(&s[2..4]))
+        && (s[8] == 1 || zeros(&s[9..13]))
+        && zeros(&s[13..GROUP])
+        && zeros(&s[GROUP + 12..HELD])
+        && zeros(&s[HELD + 8..MARKS])
+        && zeros(&s[END..OCTETS])
+}
+
 fn is_open(s: &[u8]) -> bool {
+    if s.len() < OCTETS {
+        return false;
+    }
     let flags =
         s[0] == 1 && s[1] <= 1 && s[8] <= 1 && s[HELD..HELD + 8].iter().all(|&flag| flag <= 1);
     let form = s[1] == 0 || (s[2] <= 7 && (1..=10).contains(&s[3]));
     let last = s[8] == 0 || (s[11] <= 7 && (1..=10).contains(&s[12]));
-    flags && form && last && (holds_none(s) || (holds_packet(s) && s[GROUP..GROUP + 4] == s[4..8]))
+    flags
+        && form
+        && last
+        && spare_right(s)
+        && (holds_none(s) || (holds_packet(s) && s[GROUP..GROUP + 4] == s[4..8]))
 }
 
 struct Read<'a> {
@@ -191,9 +209,6 @@ fn offer(
     timestamp: u32,
     payload: &[u8],
 ) -> Result<usize, u8> {
-    if s.len() < 2048 {
-        return Err(15);
-    }
     if !is_open(s) {
         return Err(21);
     }
@@ -207,9 +222,6 @@ fn offer(
 }
 
 fn pour(s: &mut [u8], out: &mut [u8]) -> Result<usize, u8> {
-    if s.len() < 2048 {
-        return Err(15);
-    }
     if !is_open(s) || holds_none(s) {
         return Err(21);
     }
@@ -255,7 +267,7 @@ fn main() {
                 .collect()
         })
         .collect();
-    let (mut session, mut out) = (vec![0u8; 2048], vec![0u8; 1380]);
+    let (mut session, mut out) = (vec![0u8; OCTETS], vec![0u8; 1380]);
     put(&mut session, 0, &[1, 1, 7, 10, 0, 0, 0, 7]);
     let (mut sum, mut poured) = (14_695_981_039_346_656_037u64, 0);
     let from = Instant::now();

@@ -19,7 +19,7 @@ const ANSWERS: [(&str, &[u8]); 15] = [
     ("lv_recording_write", &[0, 5, 15, 19]),
     ("lv_capture_record", &[0, 15, 255]),
     ("lv_session_open", &[0, 15, 21]),
-    ("lv_session_offer", &[0, 1, 2, 3, 4, 5, 6, 7, 8, 9, 10, 11, 12, 13, 14, 15, 16, 21]),
+    ("lv_session_offer", &[0, 1, 2, 3, 4, 5, 6, 7, 8, 9, 10, 11, 12, 13, 14, 16, 21]),
     ("lv_session_pour", &[0, 15, 21]),
     ("lv_session_copy", &[0, 15, 21]),
     ("lv_session_end", &[0, 15]),

@@ -47,16 +47,23 @@ static uint8_t open_session(int max_l, int max_b, size_t len)
     return lv_session_open(7, LV_INTERLEAVED, (uint8_t)max_l, (uint8_t)max_b, session, len);
 }
 
-/* LV_SESSION_OCTETS: fewer are refused, and no more are written. The maxima and the defaults are in range. */
+/* LV_SESSION_OCTETS: fewer are refused, but after the form, and no more are written. Fewer that are read are no session.
+ * The maxima and the defaults are in range. */
 static void try_session(void)
 {
+    size_t lost;
+
     memset(session, GUARD, sizeof session);
     holds(open_session(MAX_L, MAX_B, LV_SESSION_OCTETS - 1) == LV_NO_ROOM, "a session needs LV_SESSION_OCTETS");
+    holds(open_session(MAX_L + 1, MAX_B, LV_SESSION_OCTETS - 1) == LV_NOT_APPLICABLE, "21 comes before 15");
     holds(open_session(MAX_L + 1, MAX_B, LV_SESSION_OCTETS) == LV_NOT_APPLICABLE, "L is at most 7");
     holds(open_session(MAX_L, MAX_B + 1, LV_SESSION_OCTETS) == LV_NOT_APPLICABLE, "B is at most 10");
     holds(open_session(LV_DEFAULT_MAX_L, LV_DEFAULT_MAX_B, LV_SESSION_OCTETS) == LV_OK, "the defaults are in range");
     holds(open_session(MAX_L, MAX_B, sizeof session) == LV_OK, "LV_SESSION_OCTETS are enough");
     holds(session[LV_SESSION_OCTETS - 1] == 0 && session[LV_SESSION_OCTETS] == GUARD, "a session is LV_SESSION_OCTETS");
+    holds(lv_session_offer(session, LV_SESSION_OCTETS - 1, 8, 0, 0, payload, 0, &lost) == LV_NOT_APPLICABLE &&
+              lv_session_offer(session, LV_SESSION_OCTETS, 8, 0, 0, payload, 0, &lost) == LV_ANOTHER_SOURCE,
+          "fewer octets are no session");
 }
 
 /* LV_POURED_MAX and LV_HOLDING_OCTETS: the greatest group, held whole, poured from a holding and from the session. */

@@ -2,8 +2,8 @@
 //! not open, or as holding no packet (document 01, "Groups"; decisions 47 to 49).
 
 use crate::paper::layout::{
-    places, B, BODY, FLAGS, FORM, FRAMES, GROUP, GROUP_AT, L, LAST_B, LAST_L, LAST_SEQUENCE, MAX_B, MAX_L, OCTETS,
-    OPEN, PACKETS, POURED, SEQUENCE, SESSION_END, SOURCE,
+    places, B, BODY, FLAGS, FORM, FRAMES, GROUP, GROUP_AT, L, LAST_B, LAST_L, LAST_SEQUENCE, MARKERS, MAX_B, MAX_L,
+    OCTETS, OPEN, PACKETS, POURED, SEQUENCE, SESSION_END, SESSION_SPARE, SOURCE, SPARE,
 };
 use crate::rng::Rng;
 
@@ -25,8 +25,8 @@ pub fn changes(octets: &[u8], session: bool, rng: &mut Rng) -> Changes {
         6 => (LAST_SEQUENCE + rng.between(0, 1), any),
         7 => (rng.between(0, OCTETS - 1), any),
         8 => return (0..OCTETS).zip(rng.octets(OCTETS)).collect(),
-        // What is not looked at.
-        9 => (rng.pick(&[past, OCTETS - 1, if session { 13 } else { past }]), any | 1),
+        // What stands for nothing.
+        9 => (rng.pick(&[past, OCTETS - 1, if session { SESSION_SPARE } else { SPARE }, start + MARKERS]), any | 1),
         _ => {
             let change = of_group(&octets[start..start + GROUP], rng);
             return change.map(|(at, octet)| (start + at, octet)).into_iter().collect();

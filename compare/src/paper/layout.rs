@@ -1,8 +1,9 @@
 //! Sessions and holdings as octets. Numbers are big-endian.
 //!
 //! A holding is a group: its numbers, flags, types and bodies. A session is what it is open for, its last poured group,
-//! and the group that it holds, all zero if it holds none. All other octets are zero and not looked at; so are the
-//! maxima of the header-free form.
+//! and the group that it holds, all zero if it holds none. "Octets of the layout that stand for nothing are zero": those
+//! between these parts and behind them, the maxima of the header-free form, and the last poured group if none was
+//! poured. One that is not, and the octets are no holding, or no session. Octets past all these are not looked at.
 
 use super::form::{in_range, Form, Limits, MOST_B};
 use super::frames::{FrameType, LONGEST};
@@ -11,26 +12,29 @@ use super::holding::{HeldFrame, HeldPacket, Holding};
 use super::session::{Last, Open, Session};
 
 /// The octets of a session or of a holding.
-pub const OCTETS: usize = 2048;
+pub const OCTETS: usize = 2304;
 
 /// "A holding has room for 80 frames of 22 octets."
 pub use super::holding::PACKETS;
 pub const FRAMES: usize = MOST_B as usize;
 pub const BODY: usize = LONGEST;
 
-/// Where a group's parts lie: numbers; for each packet, 1 held, 0 not; types, less 14 modulo 256; bodies; and the end.
+/// Where a group's parts lie: numbers; zeros; for each packet, 1 held, 0 not; zeros; types, less 14 modulo 256; bodies;
+/// and the end.
 pub const SOURCE: usize = 0;
 pub const SEQUENCE: usize = 4;
 pub const TIMESTAMP: usize = 6;
 pub const L: usize = 10;
 pub const B: usize = 11;
-pub const FLAGS: usize = 12;
-pub const TYPES: usize = FLAGS + PACKETS;
+pub const SPARE: usize = 12;
+pub const FLAGS: usize = 16;
+pub const MARKERS: usize = FLAGS + PACKETS;
+pub const TYPES: usize = MARKERS + PACKETS;
 pub const BODIES: usize = TYPES + PACKETS * FRAMES;
 pub const GROUP: usize = BODIES + PACKETS * FRAMES * BODY;
 
 /// Where a session's parts lie: 1 open, 0 not; form, maxima, source; 1 if a group was poured before, else 0, with its
-/// base sequence number, L and B; the group; and the end.
+/// base sequence number, L and B; zeros; the group; and the end.
 pub const OPEN: usize = 0;
 pub const FORM: usize = 1;
 pub const MAX_L: usize = 2;
@@ -40,7 +44,8 @@ pub const POURED: usize = 8;
 pub const LAST_SEQUENCE: usize = 9;
 pub const LAST_L: usize = 11;
 pub const LAST_B: usize = 12;
-pub const GROUP_AT: usize = 16;
+pub const SESSION_SPARE: usize = 13;
+pub const GROUP_AT: usize = 32;
 pub const SESSION_END: usize = GROUP_AT + GROUP;
 
 /// Where the type of frame k of packet n lies in a group, and where its body does.
@@ -94,9 +99,23 @@ pub fn of_session(session: &Session) -> Vec<u8> {
     octets
 }
 
-/// The holding that octets, or their first, are. `None` if it "counts as holding no packet": with "L above 7, B not 1
-/// to 10, a packet above L held", a flag above 1, or a packet that breaks the rules.
+/// The holding that octets are. `None` if they are too few, or if it "counts as holding no packet".
 pub fn holding(octets: &[u8]) -> Option<Holding> {
+    let first = whole(octets)?;
+    all_zero(&first[GROUP..]).then_some(())?;
+    group(&first)
+}
+
+/// The octets that a session or holding lies in, the first of those lent. `None` if they are fewer.
+fn whole(octets: &[u8]) -> Option<[u8; OCTETS]> {
+    octets.first_chunk().copied()
+}
+
+/// The group that the first octets of a holding are. `None` with "L above 7, B not 1 to 10, a packet above L held", a
+/// flag above 1, a packet that breaks the rules, or an octet that stands for nothing and is not zero.
+fn group(octets: &[u8]) -> Option<Holding> {
+    let spare = [SPARE..FLAGS, MARKERS..TYPES];
+    spare.into_iter().all(|part| all_zero(&octets[part])).then_some(())?;
     let (l, b) = (octets[L], octets[B]);
     let source = u32::from_be_bytes(part(octets, SOURCE));
     let sequence = u16::from_be_bytes(part(octets, SEQUENCE));
@@ -135,12 +154,13 @@ fn held_frame(octets: &[u8], n: usize, k: usize) -> Option<HeldFrame> {
 
 /// The session that octets are.
 pub fn session(octets: &[u8]) -> Session {
-    open_session(octets).unwrap_or_default()
+    whole(octets).and_then(|first| open_session(&first)).unwrap_or_default()
 }
 
 /// The session that octets are, if it is open. "A session counts as not open if its held group breaks this or names
 /// another source, if the L or B of its last poured group is out of these ranges, or if its maxima are."
 fn open_session(octets: &[u8]) -> Option<Session> {
+    spare_of_session(octets).into_iter().all(|part| all_zero(&octets[part])).then_some(())?;
     let (open, poured) = (flag(octets[OPEN])?, flag(octets[POURED])?);
     let limits = Limits { max_l: octets[MAX_L], max_b: octets[MAX_B] };
     let form = Form::agreed(octets[FORM], limits).ok()?;
@@ -152,12 +172,20 @@ fn open_session(octets: &[u8]) -> Option<Session> {
     sound.then_some(Session { open: Some(Open { source, form }), held, last })
 }
 
+/// What stands for nothing in a session, beside its group.
+fn spare_of_session(octets: &[u8]) -> Vec<std::ops::Range<usize>> {
+    let mut spare = vec![SESSION_SPARE..GROUP_AT, SESSION_END..OCTETS];
+    spare.extend((octets[FORM] == 0).then_some(MAX_L..OPEN_SOURCE));
+    spare.extend((octets[POURED] == 0).then_some(LAST_SEQUENCE..SESSION_SPARE));
+    spare
+}
+
 /// The group that a session holds, if any. `None` if there is one that breaks the rules "or names another source".
 fn held_group(octets: &[u8], source: u32) -> Option<Option<Holding>> {
     if all_zero(octets) {
         return Some(None);
     }
-    let holding = holding(octets)?;
+    let holding = group(octets)?;
     (holding.group.source == source).then_some(Some(holding))
 }
 

@@ -1,7 +1,8 @@
 //! The calls on sessions and holdings in lent octets.
 //!
-//! A buffer with fewer octets than a session or holding answers 15 before all else. A call that accepts writes all
-//! octets of what it changes; "each refusal [...] changes nothing lent" (document 01, "Answers by number").
+//! Fewer octets than a session or holding has are no session and no holding to read: 21. Fewer octets than a call has
+//! to write are 15, "output shorter than the answer needs", and that comes last. A call that accepts writes all octets
+//! of what it changes; "each refusal [...] changes nothing lent" (document 01, "Answers by number").
 
 use super::answers::{refuse, Answer};
 use super::form::{Form, Limits};
@@ -11,15 +12,14 @@ use super::session::{Packet, Session};
 
 /// Opens a session, whatever its octets were: 21 if there is no such form or a maximum is out of range.
 pub fn open(octets: &mut [u8], source: u32, form: u8, limits: Limits) -> Answer<()> {
-    judge(&[octets])?;
     let session = Session::opened(source, Form::agreed(form, limits)?);
+    room(octets)?;
     write(octets, &layout::of_session(&session));
     Ok(())
 }
 
 /// Offers a packet. The answer is the number of lost frames.
 pub fn offer(octets: &mut [u8], packet: &Packet) -> Answer<u32> {
-    judge(&[octets])?;
     let mut session = layout::session(octets);
     let lost = session.offer(packet)?;
     write(octets, &layout::of_session(&session));
@@ -28,7 +28,6 @@ pub fn offer(octets: &mut [u8], packet: &Packet) -> Answer<u32> {
 
 /// Pours a session's group into so much room.
 pub fn pour(octets: &mut [u8], room: usize) -> Answer<Vec<u8>> {
-    judge(&[octets])?;
     let mut session = layout::session(octets);
     let entries = session.pour(room)?;
     write(octets, &layout::of_session(&session));
@@ -37,36 +36,35 @@ pub fn pour(octets: &mut [u8], room: usize) -> Answer<Vec<u8>> {
 
 /// Copies a session's group out.
 pub fn copy(octets: &[u8], out: &mut [u8]) -> Answer<()> {
-    judge(&[octets, out])?;
     let holding = layout::session(octets).copy()?;
+    room(out)?;
     write(out, &layout::of_holding(&holding));
     Ok(())
 }
 
 /// "Ending a session clears all of it, a held group and the memory of the last one", whatever its octets were.
 pub fn end(octets: &mut [u8]) -> Answer<()> {
-    judge(&[octets])?;
+    room(octets)?;
     write(octets, &layout::of_session(&Session::default()));
     Ok(())
 }
 
 /// Joins two holdings.
 pub fn join(a: &[u8], b: &[u8], out: &mut [u8]) -> Answer<()> {
-    judge(&[a, b, out])?;
     let joined = holding::join(layout::holding(a), layout::holding(b))?;
+    room(out)?;
     write(out, &layout::of_holding(&joined));
     Ok(())
 }
 
 /// Pours a holding into so much room.
 pub fn pour_holding(octets: &[u8], room: usize) -> Answer<Vec<u8>> {
-    judge(&[octets])?;
     holding::pour(layout::holding(octets).as_ref(), room)
 }
 
-/// 15 if one of them has fewer octets than a session or holding.
-fn judge(lent: &[&[u8]]) -> Answer<()> {
-    refuse(15, lent.iter().any(|octets| octets.len() < OCTETS))
+/// 15 if there are fewer octets than a session or holding has.
+fn room(lent: &[u8]) -> Answer<()> {
+    refuse(15, lent.len() < OCTETS)
 }
 
 /// Writes the octets of a session or holding, and none past them.

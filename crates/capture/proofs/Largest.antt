@@ -11,31 +11,36 @@ use lib.ListN.{length, take, drop, getD, replicate, length-append, length-take, 
 use lib.Seq.{getD-take, getD-drop, getD-set-other}
 use lib.Dec.{T, eqb, leb}
 use borrow.Author.Tests.{eqb-true, eqb-false, leb-true}
-use Rattle.octets.specs.Octets.{sameOctets}
+use Rattle.octets.specs.Octets.{sameOctets, region}
 use Rattle.octets.proofs.Logic.{apart, both-true}
-use Rattle.octets.proofs.OctetLaws.{same-true}
-use Rattle.frame.specs.Table.{Vocoder, size, within, erases, erasure}
-use Rattle.frame.proofs.TableLaws.{size-within, erasure-listed}
-use Rattle.frame.specs.Outputs.{Made}
-use Rattle.frame.specs.Outputs as outputs
-use Rattle.recording.specs.Entries.{entriesOf}
-use Rattle.holding.specs.Group.{region, erased, samePackets, isNothing, heldAt, packetOf, withPacket, begun, holds, rightAt}
+use Rattle.octets.proofs.OctetsLaws.{same-true}
+use Rattle.frame.specs.FrameTable.{FrameTable, size, within, erases, erasure}
+use Rattle.frame.proofs.FrameTableLaws.{size-within, erasure-listed}
+use Rattle.answers.specs.Outputs.{Made}
+use Rattle.answers.specs.Outputs as outputs
+use Rattle.entries.specs.Kind.{Kind}
+use Rattle.entries.specs.Entries.{entriesOf}
+use Rattle.holding.specs.Group.{isNothing, heldAt, bundleAt, withPacket, begun, holds, rightAt}
+use Rattle.bundle.specs.Bundles.{notHeld, sameBundles}
 use Rattle.holding.specs.declared.Holding.{Holding}
-use Rattle.holding.specs.declared.Packet.{Packet}
-use Rattle.holding.proofs.GroupLaws.{all-at, packet-lost, sound-has, holds-sound, nothing-is, sound-something}
+use Rattle.bundle.specs.declared.Bundle.{Bundle}
+use Rattle.holding.proofs.GroupLaws.{packet-lost, sound-has, holds-sound, nothing-is, sound-something}
+use Rattle.octets.proofs.Below.{all-at}
 use Rattle.pouring.specs.Pouring.{frameIn, row, rows, inTime, poured}
 use Rattle.frame.specs.Places.{upTo}
-use Rattle.pouring.proofs.PourLaws.{entries-append}
-use Rattle.frame.specs.declared.Refusal.{Refusal}
-use Rattle.frame.specs.declared.Refusal.the-variants.{NotApplicable}
+use Rattle.pouring.proofs.PouringLaws.{entries-append}
+use Rattle.answers.specs.declared.Refusal.{Refusal}
+use Rattle.answers.specs.declared.Refusal.the-variants.{NotApplicable}
 use Rattle.payload.specs.Payload.{packet}
-use Rattle.session.specs.Session.{formRight, lastRight, groupRight, isOpen, refuse, accept, withGroup, begins, arrival, offered, pourMade, ended, never, fresh, vacant}
-use Rattle.session.proofs.Ends.{Placed, no, again, put, first, next, ahead, Ends, refuses, places, offer-ends}
+use Rattle.session.specs.Session.{formRight, lastRight, groupRight, isOpen, refuse, accept, withGroup, begins, arrival, offered, pourMade}
+use Rattle.session.specs.Session.{ended, neverOpened, fresh, vacant}
+use Rattle.session.proofs.Ends.{Placed, no, again, put, first, next, Ends, refuses, places, offer-ends}
 use Rattle.session.specs.declared.Session.{Session}
 use Rattle.session.specs.declared.Arrival.{Arrival}
 use Rattle.session.specs.declared.Offered.{Offered}
-use Rattle.capture.specs.Table.{Heard}
-use Rattle.capture.specs.Run.{Step, andThen, firstSession, offeredTo, takenOf, offering, pouredOf, pouring, isTwelve, stepOf, runOf, lostIn}
+use Rattle.capture.specs.Capture.{Heard}
+use Rattle.capture.specs.Run.{Step, andThen, firstSession, offeredTo, takenOf, offering, pouredOf, pouring, isTwelve, stepOf, runOf}
+use Rattle.capture.specs.Run.{lostIn}
 
 at-most-one : (t : Bool) → cond t 1 0 ≤ 1
 at-most-one true = omega arith
@@ -47,11 +52,11 @@ heldBelow h zero = 0
 heldBelow h (suc m) = heldBelow h m + cond (heldAt h m) 1 0
 
 -- ---- the entries of a group take 80 octets, and 220 more for each packet held
-module _ (v : Vocoder) (w : T (within 22 v)) (z : T (erases v)) (h : Holding) (right : (n : ℕ) → n < 8 → rightAt v h n ≡ true) where
+module _ (v : FrameTable) (w : T (within 22 v)) (z : T (erases v)) (h : Holding) (right : (n : ℕ) → n < 8 → rightAt v h n ≡ true) where
   lost-mark : (n k : ℕ) → n < 8 → k < 10 → heldAt h n ≡ false → getD (h .marks) (10 * n + k) 0 ≡ erasure
-  unfolding rightAt samePackets packetOf erased region
+  unfolding rightAt sameBundles bundleAt notHeld region
   lost-mark n k p q e =
-      let s : samePackets (packetOf h n) erased ≡ true = packet-lost v (h .l) (h .b) n (heldAt h n) (packetOf h n) e ∙ right n p in
+      let s : sameBundles (bundleAt h n) notHeld ≡ true = packet-lost v (h .l) (h .b) n (heldAt h n) (bundleAt h n) e ∙ right n p in
       let m = same-true (take 10 (drop (10 * n) (h .marks))) (replicate 10 erasure) (both-true (sameOctets (take 10 (drop (10 * n) (h .marks))) (replicate 10 erasure)) _ s .0) in
       sym (getD-drop (10 * n) (h .marks) k 0) ∙ sym (getD-take 10 (drop (10 * n) (h .marks)) k 0 q) ∙ ap (λ (l : List ℕ). getD l k 0) m ∙ getD-replicate 10 k erasure 0 q
 
@@ -88,8 +93,10 @@ module _ (v : Vocoder) (w : T (within 22 v)) (z : T (erases v)) (h : Holding) (r
   rows-small m (suc b) p q =
       let i = rows-small m b p (omega arith) in
       let j = row-small b m p q in
-      let e : length (entriesOf (rows v (h .marks) (h .room) m b ++ row v (h .marks) (h .room) b m)) ≡ length (entriesOf (rows v (h .marks) (h .room) m b)) + length (entriesOf (row v (h .marks) (h .room) b m)) =
-      ap length (entries-append (rows v (h .marks) (h .room) m b) (row v (h .marks) (h .room) b m)) ∙ length-append (entriesOf (rows v (h .marks) (h .room) m b)) (entriesOf (row v (h .marks) (h .room) b m)) in
+      let rs = rows v (h .marks) (h .room) m b in
+      let x = row v (h .marks) (h .room) b m in
+      let e : length (entriesOf (rs ++ x)) ≡ length (entriesOf rs) + length (entriesOf x) =
+      ap length (entries-append rs x) ∙ length-append (entriesOf rs) (entriesOf x) in
       omega (arith, suc-mul b (m + 22 * heldBelow h m))
 
 held-grows : (h : Holding) (m n : ℕ) → m ≤ n → heldBelow h m ≤ heldBelow h n
@@ -97,7 +104,7 @@ held-grows h m zero p = let e : m ≡ 0 = omega arith in rw e (le-refl 0)
 held-grows h m (suc n) p =
     ⊎-elim (λ (e : m ≡ suc n). rw e (le-refl _)) (λ (q : m < suc n). omega (arith, held-grows h m n (le-of-suc-le-suc q))) (eq-or-lt-of-le p)
 
-pour-small : (v : Vocoder) → T (within 22 v) → T (erases v) → (h : Holding) → holds v h ≡ true → length (entriesOf (inTime v h)) ≤ 80 + 220 * heldBelow h 8
+pour-small : (v : FrameTable) → T (within 22 v) → T (erases v) → (h : Holding) → holds v h ≡ true → length (entriesOf (inTime v h)) ≤ 80 + 220 * heldBelow h 8
 pour-small v w z h e =
     let s = sound-has v h (holds-sound v h e .0) in
     let low : h .l + 1 ≤ 8 = omega (arith, s .low) in
@@ -112,7 +119,7 @@ held-few h zero = omega arith
 held-few h (suc m) = let i = held-few h m in omega (arith, i, at-most-one (heldAt h m))
 
 -- a packet put in is one more; of a group just begun none is held
-module _ (h : Holding) (n : ℕ) (p : Packet) where
+module _ (h : Holding) (n : ℕ) (p : Bundle) where
   with-other : (m : ℕ) → (m ≡ n → ⊥) → heldAt (withPacket h n p) m ≡ heldAt h m
   unfolding heldAt withPacket
   with-other m d = getD-set-other (h .held) n m true false d
@@ -158,14 +165,17 @@ weight-most s = go (isNothing (s .group))
 -- ---- an offer brings 300 octets at most, and the lost frames before it
 data Brings (s : Session) (o : Offered) : Type 0 where
   nothing-new : (r : Refusal) → o ≡ refuse s r → Brings s o
-  more : (t : Session) (lost : ℕ) → o ≡ accept t lost → t .poured ≡ s .poured → t .source ≡ s .source → lost ≤ 1000 → lost + weight t ≤ weight s + 300 + before s → Brings s o
+  more : (t : Session) (lost : ℕ) → o ≡ accept t lost → t .poured ≡ s .poured → t .source ≡ s .source →
+      lost ≤ 1000 → lost + weight t ≤ weight s + 300 + before s → Brings s o
 
 -- a group that a packet begins
-begun-weight : (s : Session) (a : Arrival) → weight (withGroup s (withPacket (begun (s .source) (a .sequence) (a .timestamp) (a .l) (a .b)) (a .n) (a .packet))) ≤ 300
+begun-weight : (s : Session) (a : Arrival) → let g = a .numbers in
+    weight (withGroup s (withPacket (begun (s .source) (g .sequence) (g .timestamp) (g .l) (g .b)) (a .n) (a .packet))) ≤ 300
 unfolding withGroup
 begun-weight s a =
-    let none = begun (s .source) (a .sequence) (a .timestamp) (a .l) (a .b) in
-    let e = begun-none (s .source) (a .sequence) (a .timestamp) (a .l) (a .b) 8 (le-refl 8) in
+    let g = a .numbers in
+    let none = begun (s .source) (g .sequence) (g .timestamp) (g .l) (g .b) in
+    let e = begun-none (s .source) (g .sequence) (g .timestamp) (g .l) (g .b) 8 (le-refl 8) in
     omega (arith, weight-most (withGroup s (withPacket none (a .n) (a .packet))), with-small none (a .n) (a .packet) 8, e)
 
 placed-brings : (s : Session) (a : Arrival) (o : Offered) → lastRight s ≡ true → Placed s a o → Brings s o
@@ -175,16 +185,18 @@ placed-brings s a o r (again q e) = more s 0 e refl refl (omega arith) (omega ar
 placed-brings s a o r (put q f i e) =
     let g = s .group in
     let held : weight s ≡ 80 + 220 * heldBelow g 8 = simp q in
-    more (withGroup s (withPacket g (a .n) (a .packet))) 0 e refl refl (omega arith) (omega (arith, weight-most (withGroup s (withPacket g (a .n) (a .packet))), with-small g (a .n) (a .packet) 8, held))
+    more (withGroup s (withPacket g (a .n) (a .packet))) 0 e refl refl (omega arith)
+    (omega (arith, weight-most (withGroup s (withPacket g (a .n) (a .packet))), with-small g (a .n) (a .packet) 8, held))
 placed-brings s a o r (first q p e) = more _ 0 e refl refl (omega arith) (omega (arith, begun-weight s a))
-placed-brings s a o r (next q p h e) =
-    let x : (leb (s .«last_l») 7 && (leb 1 (s .«last_b») && leb (s .«last_b») 10)) ≡ true = sym (ap (λ (t : Bool). cond t (leb (s .«last_l») 7 && (leb 1 (s .«last_b») && leb (s .«last_b») 10)) true) p) ∙ r in
+placed-brings s a o r (next q p lost f h e) =
+    let x : (leb (s .«last_l») 7 && (leb 1 (s .«last_b») && leb (s .«last_b») 10)) ≡ true =
+    sym (ap (λ (t : Bool). cond t (leb (s .«last_l») 7 && (leb 1 (s .«last_b») && leb (s .«last_b») 10)) true) p) ∙ r in
     let y = both-true (leb 1 (s .«last_b»)) (leb (s .«last_b») 10) (both-true (leb (s .«last_l») 7) (leb 1 (s .«last_b») && leb (s .«last_b») 10) x .1) in
-    let small = mul-le-mul {n₁ = ahead s a} {m₁ = s .«last_b»} {n₂ = 100} {m₂ = 10} h (leb-true _ _ (y .1)) in
+    let few : s .«last_b» ≤ 10 = leb-true _ _ (y .1) in
     let b : before s ≡ 1000 = simp p in
-    more _ (ahead s a * s .«last_b») e refl refl (omega arith) (omega (arith, begun-weight s a, small, b))
+    more _ lost e refl refl (omega (arith, h, few)) (omega (arith, begun-weight s a, h, few, b))
 
-offer-brings : (v : Vocoder) (s : Session) (h : Heard) → Brings s (offeredTo v s h)
+offer-brings : (v : FrameTable) (s : Session) (h : Heard) → Brings s (offeredTo v s h)
 unfolding offeredTo isOpen
 offer-brings v s h = go (offered v s (h .source) (h .sequence) (h .timestamp) (h .payload)) (offer-ends v s (h .source) (h .sequence) (h .timestamp) (h .payload))
   where
@@ -195,7 +207,7 @@ offer-brings v s h = go (offered v s (h .source) (h .sequence) (h .timestamp) (h
         placed-brings s (arrival (h .sequence) (h .timestamp) l n fs) o (both-true (lastRight s) (groupRight v s) (y .1) .0) x
 
 -- so the lost frames of an answer are few
-pub lost-few : (v : Vocoder) (s : Session) (h : Heard) → lostIn (offeredTo v s h .answer) ≤ 1000
+pub lost-few : (v : FrameTable) (s : Session) (h : Heard) → lostIn (offeredTo v s h .answer) ≤ 1000
 unfolding lostIn refuse accept
 lost-few v s h = go (offeredTo v s h) (offer-brings v s h)
   where
@@ -209,30 +221,30 @@ record Brought (s : Session) (a : Step) : Type 0 where
   source : a .session .source ≡ s .source
   small : length (a .octets) + weight (a .session) ≤ weight s + 300 + before s
 
-offering-brought : (v : Vocoder) (s : Session) (h : Heard) → Brought s (offering v s h)
+offering-brought : (kind : Kind) (s : Session) (h : Heard) → Brought s (offering kind s h)
 unfolding offering takenOf refuse accept
-offering-brought v s h = go (offeredTo v s h) (offer-brings v s h)
+offering-brought kind s h = go (offeredTo (kind .table) s h) (offer-brings (kind .table) s h)
   where
-    go : (o : Offered) → Brings s o → Brought s (takenOf s (o .session) (o .answer))
+    go : (o : Offered) → Brings s o → Brought s (takenOf kind s (o .session) (o .answer))
     go o (nothing-new r e) = rw e (record { same = refl; source = refl; small = omega arith })
-    go o (more t lost e p q l w) = rw e (record { same = p; source = q; small = omega (arith, w, length-replicate lost erasure) })
+    go o (more t lost e p q l w) = rw e (record { same = p; source = q; small = omega (arith, w, length-replicate lost (kind .erasure)) })
 
 -- ---- no step changes whose session it is
-pouring-source : (v : Vocoder) (s : Session) → pouring v s .session .source ≡ s .source
+pouring-source : (v : FrameTable) (s : Session) → pouring v s .session .source ≡ s .source
 unfolding pouring pouredOf ended
 pouring-source v s = go (pourMade v s)
   where
     go : (m : Made) → pouredOf s m .session .source ≡ s .source
     go (outputs.octets w) = refl
-    go (outputs.refused r) = refl
+    go (outputs.refusedOutput r) = refl
 
-pub step-source : (v : Vocoder) (s : Session) (h : Heard) → stepOf v s h .session .source ≡ s .source
+pub step-source : (kind : Kind) (s : Session) (h : Heard) → stepOf kind s h .session .source ≡ s .source
 unfolding stepOf andThen
-step-source v s h = go (isTwelve (offeredTo v s h .answer))
+step-source kind s h = go (isTwelve (offeredTo (kind .table) s h .answer))
   where
-    go : (b : Bool) → cond b (andThen (pouring v s) (λ t. offering v t h)) (offering v s h) .session .source ≡ s .source
-    go false = offering-brought v s h .source
-    go true = offering-brought v (pouring v s .session) h .source ∙ pouring-source v s
+    go : (b : Bool) → cond b (andThen (pouring (kind .table) s) (λ t. offering kind t h)) (offering kind s h) .session .source ≡ s .source
+    go false = offering-brought kind s h .source
+    go true = offering-brought kind (pouring (kind .table) s .session) h .source ∙ pouring-source (kind .table) s
 
 -- ---- pouring in a run
 data Pours (s : Session) (a : Step) : Type 0 where
@@ -249,18 +261,33 @@ Small s len i = len + weight s + before s ≤ cap (s .poured) i
 then-small : (s : Session) (len i : ℕ) (a : Step) → Small s len i → Brought s a → Small (a .session) (len + length (a .octets)) (i + 1)
 then-small s len i a h b = go (s .poured) (a .session .poured) (b .same) h (b .small)
   where
-    go : (p q : Bool) → q ≡ p → len + weight s + cond p 1000 0 ≤ cap p i → length (a .octets) + weight (a .session) ≤ weight s + 300 + cond p 1000 0 → len + length (a .octets) + weight (a .session) + cond q 1000 0 ≤ cap q (i + 1)
+    go :
+        (p q : Bool) →
+        q ≡ p →
+        len + weight s + cond p 1000 0 ≤ cap p i →
+        length (a .octets) + weight (a .session) ≤ weight s + 300 + cond p 1000 0 →
+        len + length (a .octets) + weight (a .session) + cond q 1000 0 ≤ cap q (i + 1)
     go true true e x y = omega arith
     go false false e x y = omega arith
     go true false e x y = apart (cc)
     go false true e x y = apart (cc)
 
-module _ (v : Vocoder) (w : T (within 22 v)) (z : T (erases v)) where
+-- what pouring makes, by whether the session is open and whether it holds a group
+abbrev pub madeIf : FrameTable → Session → Bool → Bool → Made
+madeIf v s o b =
+    let none = outputs.refusedOutput NotApplicable in
+    cond o (cond b (outputs.octets (entriesOf (inTime v (s .group)))) none) none
+
+-- the length of what stands behind n octets
+behind : (n : ℕ) (xs ys : List ℕ) → n + length (xs ++ ys) ≡ n + length xs + length ys
+behind n xs ys = omega (arith, length-append xs ys)
+
+module _ (v : FrameTable) (w : T (within 22 v)) (z : T (erases v)) where
   pour-ends : (s : Session) → Pours s (pouring v s)
   unfolding pouring pouredOf pourMade poured
   pour-ends s = go (isOpen v s) (holds v (s .group)) refl
     where
-      go : (o b : Bool) → holds v (s .group) ≡ b → Pours s (pouredOf s (cond o (cond b (outputs.octets (entriesOf (inTime v (s .group)))) (outputs.refused NotApplicable)) (outputs.refused NotApplicable)))
+      go : (o b : Bool) → holds v (s .group) ≡ b → Pours s (pouredOf s (madeIf v s o b))
       go false b e = none refl
       go true false e = none refl
       go true true e =
@@ -272,7 +299,7 @@ module _ (v : Vocoder) (w : T (within 22 v)) (z : T (erases v)) where
   unfolding pourMade poured
   pour-most s y q = go (isOpen v s) (holds v (s .group)) refl q
     where
-      go : (o b : Bool) → holds v (s .group) ≡ b → cond o (cond b (outputs.octets (entriesOf (inTime v (s .group)))) (outputs.refused NotApplicable)) (outputs.refused NotApplicable) ≡ outputs.octets y → length y ≤ 1840
+      go : (o b : Bool) → holds v (s .group) ≡ b → madeIf v s o b ≡ outputs.octets y → length y ≤ 1840
       go false b e x = apart (cc)
       go true false e x = apart (cc)
       go true true e x =
@@ -285,7 +312,7 @@ module _ (v : Vocoder) (w : T (within 22 v)) (z : T (erases v)) where
     where
       go : (m : Made) → pourMade v s ≡ m → length (pouredOf s m .octets) ≤ 1840
       go (outputs.octets y) e = pour-most s y e
-      go (outputs.refused r) e = omega arith
+      go (outputs.refusedOutput r) e = omega arith
 
   pour-keeps : (s : Session) (len i : ℕ) → Small s len i → Small (pouring v s .session) (len + length (pouring v s .octets)) i
   unfolding ended
@@ -303,30 +330,32 @@ module _ (v : Vocoder) (w : T (within 22 v)) (z : T (erases v)) where
           let r : Small (ended s) (len + length (a .octets)) i = omega arith in
           rw e r
 
-  step-small : (s : Session) (h : Heard) (len i : ℕ) → Small s len i → Small (stepOf v s h .session) (len + length (stepOf v s h .octets)) (i + 1)
+module _ (kind : Kind) (w : T (within 22 (kind .table))) (z : T (erases (kind .table))) where
+  step-small : (s : Session) (h : Heard) (len i : ℕ) → Small s len i → Small (stepOf kind s h .session) (len + length (stepOf kind s h .octets)) (i + 1)
   unfolding stepOf andThen
-  step-small s h len i x = go (isTwelve (offeredTo v s h .answer))
+  step-small s h len i x = go (isTwelve (offeredTo (kind .table) s h .answer))
     where
-      go : (b : Bool) → Small (cond b (andThen (pouring v s) (λ t. offering v t h)) (offering v s h) .session) (len + length (cond b (andThen (pouring v s) (λ t. offering v t h)) (offering v s h) .octets)) (i + 1)
-      go false = then-small s len i (offering v s h) x (offering-brought v s h)
+      go :
+          (b : Bool) →
+          let a = cond b (andThen (pouring (kind .table) s) (λ t. offering kind t h)) (offering kind s h) in
+          Small (a .session) (len + length (a .octets)) (i + 1)
+      go false = then-small s len i (offering kind s h) x (offering-brought kind s h)
       go true =
-          let t = pouring v s .session in
-          let y = then-small t (len + length (pouring v s .octets)) i (offering v t h) (pour-keeps s len i x) (offering-brought v t h) in
-          let e : len + length (pouring v s .octets ++ offering v t h .octets) ≡ len + length (pouring v s .octets) + length (offering v t h .octets) = omega (arith, length-append (pouring v s .octets) (offering v t h .octets)) in
-          rw e y
+          let t = pouring (kind .table) s .session in
+          let y = then-small t (len + length (pouring (kind .table) s .octets)) i (offering kind t h) (pour-keeps (kind .table) w z s len i x) (offering-brought kind t h) in
+          rw (behind len (pouring (kind .table) s .octets) (offering kind t h .octets)) y
 
-  run-small : (s : Session) (hs : List Heard) (len i : ℕ) → Small s len i → Small (runOf v s hs .session) (len + length (runOf v s hs .octets)) (i + length hs)
+  run-small : (s : Session) (hs : List Heard) (len i : ℕ) → Small s len i → Small (runOf kind s hs .session) (len + length (runOf kind s hs .octets)) (i + length hs)
   unfolding runOf andThen
   run-small s [] len i x = rw (add-zero len, add-zero i) x
   run-small s (h ∷ hs) len i x =
-      let a = stepOf v s h in
+      let a = stepOf kind s h in
       let y = run-small (a .session) hs (len + length (a .octets)) (i + 1) (step-small s h len i x) in
-      let e : len + length (a .octets ++ runOf v (a .session) hs .octets) ≡ len + length (a .octets) + length (runOf v (a .session) hs .octets) = omega (arith, length-append (a .octets) (runOf v (a .session) hs .octets)) in
       let f : i + length (h ∷ hs) ≡ i + 1 + length hs = omega arith in
-      rw (e, f) y
+      rw (behind len (a .octets) (runOf kind (a .session) hs .octets), f) y
 
   first-small : (hs : List Heard) → Small (firstSession hs) 0 0
-  unfolding firstSession never fresh vacant
+  unfolding firstSession neverOpened fresh vacant
   first-small [] = simp nothing-is (omega arith)
   first-small (h ∷ hs) = simp nothing-is (omega arith)
 
@@ -339,15 +368,15 @@ module _ (v : Vocoder) (w : T (within 22 v)) (z : T (erases v)) where
 
   -- what a run over at most 256 packets has recorded, before and after the last pouring
   module _ (hs ks : List Heard) (few : length ks ≤ 256) where
-    from-first : Small (runOf v (firstSession hs) ks .session) (length (runOf v (firstSession hs) ks .octets)) (length ks)
-    from-first = rw (← zero-add (length (runOf v (firstSession hs) ks .octets)), ← zero-add (length ks)) (run-small (firstSession hs) ks 0 0 (first-small hs))
+    from-first : Small (runOf kind (firstSession hs) ks .session) (length (runOf kind (firstSession hs) ks .octets)) (length ks)
+    from-first = rw (← zero-add (length (runOf kind (firstSession hs) ks .octets)), ← zero-add (length ks)) (run-small (firstSession hs) ks 0 0 (first-small hs))
 
-    pub run-few : length (runOf v (firstSession hs) ks .octets) ≤ 256 * 300 + 255 * 1000
-    run-few = few-octets (runOf v (firstSession hs) ks .session) _ (length ks) few from-first
+    pub run-few : length (runOf kind (firstSession hs) ks .octets) ≤ 256 * 300 + 255 * 1000
+    run-few = few-octets (runOf kind (firstSession hs) ks .session) _ (length ks) few from-first
 
-    pub all-few : length (andThen (runOf v (firstSession hs) ks) (pouring v) .octets) ≤ 256 * 300 + 255 * 1000
+    pub all-few : length (andThen (runOf kind (firstSession hs) ks) (pouring (kind .table)) .octets) ≤ 256 * 300 + 255 * 1000
     unfolding andThen
     all-few =
-        let a = runOf v (firstSession hs) ks in
-        let x = few-octets (pouring v (a .session) .session) _ (length ks) few (pour-keeps (a .session) (length (a .octets)) (length ks) from-first) in
-        omega (arith, x, length-append (a .octets) (pouring v (a .session) .octets))
+        let a = runOf kind (firstSession hs) ks in
+        let x = few-octets (pouring (kind .table) (a .session) .session) _ (length ks) few (pour-keeps (kind .table) w z (a .session) (length (a .octets)) (length ks) from-first) in
+        omega (arith, x, length-append (a .octets) (pouring (kind .table) (a .session) .octets))

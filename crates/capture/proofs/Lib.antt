@@ -1,3 +1,3 @@
-pub mod TableLaws
+pub mod CaptureLaws
 pub mod Largest
 pub mod RunLaws

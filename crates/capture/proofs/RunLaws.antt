@@ -11,55 +11,66 @@ use lib.Dec.{T, eqb, leb}
 use borrow.Author.Tests.{le-leb, lt-leb}
 use Rattle.octets.specs.Octets.{over, twoAt, fourAt}
 use Rattle.octets.proofs.Logic.{apart}
-use Rattle.octets.proofs.OctetLaws.{over-append, over-nothing, length-over, part-is}
-use Rattle.frame.specs.Table.{Vocoder, within, erases, erasure}
+use Rattle.octets.proofs.OctetsLaws.{over-append, over-nothing, length-over, part-is}
+use Rattle.frame.specs.FrameTable.{FrameTable, within, erases}
 use Rattle.frame.specs.Places.{upTo}
-use Rattle.frame.specs.Answers.{numberOf}
-use Rattle.frame.specs.Outputs.{Made, octets, refused, writtenOf, outAfter, Writes}
-use Rattle.frame.specs.declared.Refusal.{Refusal}
-use Rattle.frame.specs.declared.Refusal.the-variants.{NoRoom}
-use Rattle.frame.specs.declared.Written.{Written}
-use Rattle.frame.specs.declared.Written.the-variants as written
-use Rattle.recording.specs.Entries.{entries}
+use Rattle.answers.specs.Answers.{numberOf}
+use Rattle.answers.specs.Outputs.{Made, octets, refusedOutput, writtenOf, outAfter, Writes}
+use Rattle.answers.specs.declared.Refusal.{Refusal}
+use Rattle.answers.specs.declared.Refusal.the-variants.{NoRoom}
+use Rattle.answers.specs.declared.Written.{Written}
+use Rattle.answers.specs.declared.Written.the-variants as written
+use Rattle.entries.specs.Kind.{Kind}
+use Rattle.entries.specs.Entries.{entries}
 use Rattle.recording.specs.Recording.{recordingMade}
-use Rattle.session.specs.Session.{never, fresh, formRight, opening, offered, pourMade, ended, afterPour}
+use Rattle.session.specs.Session.{neverOpened, fresh, formRight, openedFor, offered, pourMade, ended, afterPour}
 use Rattle.session.specs.declared.Session.{Session}
 use Rattle.session.specs.declared.Offered.{Offered}
 use Rattle.session.specs.declared.Started.{Started}
-use Rattle.frame.specs.declared.Form.the-variants.{Interleaved}
+use Rattle.form.specs.declared.Form.the-variants.{Interleaved}
 use Rattle.session.specs.declared.Taken.{Taken}
 use Rattle.session.specs.declared.Taken.the-variants.{Accepted, Refused}
-use Rattle.frame.proofs.PlaceLaws.{length-upTo, upTo-more, upTo-first}
-use Rattle.capture.specs.Table.{Heard, countOf, startAt, heardAt, packetsIn, good}
-use Rattle.capture.specs.Run.{Step, andThen, captureForm, firstSession, offeredTo, takenOf, offering, pouredOf, pouring, isTwelve, lostIn, stepOf, runOf, recordedOf, recordingOf, largest, Put, Does, recorded, outputOf}
+use Rattle.frame.proofs.PlacesLaws.{length-upTo, upTo-more, upTo-first}
+use Rattle.frame.proofs.FrameTableLaws.{rows-within, rows-erases}
+use Rattle.capture.specs.Capture.{Heard, countOf, startAt, heardAt, packetsIn, good}
+use Rattle.capture.specs.Run.{captureVocoder, captureKind, Step, andThen, captureForm, firstSession, offeredTo, takenOf, offering, pouredOf, pouring, isTwelve}
+use Rattle.capture.specs.Run.{lostIn, stepOf, runOf, entriesRecorded, captureRecording, largest, Put, Does, recordAnswer}
+use Rattle.capture.specs.Run.{recordOutput}
 use Rattle.capture.specs.declared.Run.{Run}
 use Rattle.capture.specs.declared.Outcome.the-variants as outcome
 use Rattle.capture.proofs.Largest.{pour-most, lost-few, run-few, all-few}
-use Rattle.capture.proofs.TableLaws.{good-is}
+use Rattle.capture.proofs.CaptureLaws.{good-is}
+
+-- the frame table of a capture: no body is longer than 22 octets, and an erasure has none
+pub table-fits : T (within 22 (captureKind .table))
+table-fits = rows-within captureVocoder
+
+pub table-erases : T (erases (captureKind .table))
+table-erases = rows-erases captureVocoder
 
 -- ---- a run over one list and then another, and over one packet more
-run-append : (v : Vocoder) (s : Session) (hs ks : List Heard) → runOf v s (hs ++ ks) ≡ andThen (runOf v s hs) (λ t. runOf v t ks)
+run-append : (kind : Kind) (s : Session) (hs ks : List Heard) → runOf kind s (hs ++ ks) ≡ andThen (runOf kind s hs) (λ t. runOf kind t ks)
 unfolding runOf andThen
-run-append v s [] ks = refl
-run-append v s (h ∷ hs) ks =
-    let a = stepOf v s h in
-    let x = runOf v (a .session) hs in
-    ap (λ (b : Step). record { session = b .session; octets = a .octets ++ b .octets }) (run-append v (a .session) hs ks)
-    ∙ ap (λ (o : List ℕ). record { session = runOf v (x .session) ks .session; octets = o }) (sym (append-assoc (a .octets) (x .octets) (runOf v (x .session) ks .octets)))
+run-append kind s [] ks = refl
+run-append kind s (h ∷ hs) ks =
+    let a = stepOf kind s h in
+    let x = runOf kind (a .session) hs in
+    ap (λ (b : Step). record { session = b .session; octets = a .octets ++ b .octets }) (run-append kind (a .session) hs ks)
+    ∙ ap (λ (o : List ℕ). record { session = runOf kind (x .session) ks .session; octets = o }) (sym (append-assoc (a .octets) (x .octets) (runOf kind (x .session) ks .octets)))
 
-one-step : (v : Vocoder) (s : Session) (h : Heard) → runOf v s (h ∷ []) ≡ stepOf v s h
+one-step : (kind : Kind) (s : Session) (h : Heard) → runOf kind s (h ∷ []) ≡ stepOf kind s h
 unfolding runOf andThen
-one-step v s h = ap (λ (o : List ℕ). record { session = stepOf v s h .session; octets = o }) (append-nil (stepOf v s h .octets))
+one-step kind s h = ap (λ (o : List ℕ). record { session = stepOf kind s h .session; octets = o }) (append-nil (stepOf kind s h .octets))
 
-run-more : (v : Vocoder) (s : Session) (f : ℕ → Heard) (i : ℕ) → runOf v s (upTo f (i + 1)) ≡ andThen (runOf v s (upTo f i)) (λ t. stepOf v t (f i))
+run-more : (kind : Kind) (s : Session) (f : ℕ → Heard) (i : ℕ) → runOf kind s (upTo f (i + 1)) ≡ andThen (runOf kind s (upTo f i)) (λ t. stepOf kind t (f i))
 unfolding andThen
-run-more v s f i =
-    let a = runOf v s (upTo f i) in
-    ap (runOf v s) (upTo-more f i) ∙ run-append v s (upTo f i) (f i ∷ [])
-    ∙ ap (λ (b : Step). record { session = b .session; octets = a .octets ++ b .octets }) (one-step v (a .session) (f i))
+run-more kind s f i =
+    let a = runOf kind s (upTo f i) in
+    ap (runOf kind s) (upTo-more f i) ∙ run-append kind s (upTo f i) (f i ∷ [])
+    ∙ ap (λ (b : Step). record { session = b .session; octets = a .octets ++ b .octets }) (one-step kind (a .session) (f i))
 
 -- ---- the first session
-pub first-none : (c : List ℕ) (n : ℕ) → n ≡ countOf c → n ≡ 0 → never ≡ firstSession (packetsIn c)
+pub first-none : (c : List ℕ) (n : ℕ) → n ≡ countOf c → n ≡ 0 → neverOpened ≡ firstSession (packetsIn c)
 unfolding packetsIn firstSession upTo
 first-none c n e z = let q : countOf c ≡ 0 = sym e ∙ z in rw q
 
@@ -71,13 +82,26 @@ first-some c n e z = go (countOf c) (λ (q : countOf c ≡ 0). z (e ∙ q))
     go zero h = absurd (h refl)
     go (suc m) h = ap firstSession (sym (upTo-first (heardAt c) m))
 
-pub first-opened : (c : List ℕ) (n x : ℕ) (s : Session) (t : Started) → n ≡ countOf c → (n ≡ 0 → ⊥) → x ≡ fourAt c 2 → t ≡ opening s x (Interleaved (record { «max_l» = 7; «max_b» = 10 })) → t .session ≡ firstSession (packetsIn c)
-unfolding heardAt opening formRight captureForm
+pub first-opened :
+    (c : List ℕ) (n x : ℕ) (s : Session) (t : Started) →
+    n ≡ countOf c →
+    (n ≡ 0 → ⊥) →
+    x ≡ fourAt c 2 →
+    t ≡ openedFor s x (Interleaved (record { «max_l» = 7; «max_b» = 10 })) →
+    t .session ≡ firstSession (packetsIn c)
+unfolding heardAt openedFor formRight captureForm
 first-opened c n x s t e z y q = ap (λ (o : Started). o .session) q ∙ ap (λ (i : ℕ). fresh i captureForm) y ∙ first-some c n e z
 
 -- ---- a packet of the capture, offered
-pub offer-heard : (v : Vocoder) (s : Session) (c : List ℕ) (i source sequence timestamp start size : ℕ) (r : Offered) → source ≡ fourAt c (2 + 12 * i) → sequence ≡ twoAt c (2 + 12 * i + 4)
-    → timestamp ≡ fourAt c (2 + 12 * i + 6) → size ≡ twoAt c (2 + 12 * i + 10) → start ≡ startAt c i → r ≡ offered v s source sequence timestamp (take (start + size - start) (drop start c)) → r ≡ offeredTo v s (heardAt c i)
+pub offer-heard :
+    (v : FrameTable) (s : Session) (c : List ℕ) (i source sequence timestamp start size : ℕ) (r : Offered) →
+    source ≡ fourAt c (2 + 12 * i) →
+    sequence ≡ twoAt c (2 + 12 * i + 4) →
+    timestamp ≡ fourAt c (2 + 12 * i + 6) →
+    size ≡ twoAt c (2 + 12 * i + 10) →
+    start ≡ startAt c i →
+    r ≡ offered v s source sequence timestamp (take (start + size - start) (drop start c)) →
+    r ≡ offeredTo v s (heardAt c i)
 unfolding heardAt offeredTo
 offer-heard v s c i source sequence timestamp start size r a b d e f q =
     let p : take (start + size - start) (drop start c) ≡ take (twoAt c (2 + 12 * i + 10)) (drop (startAt c i) c) =
@@ -116,17 +140,21 @@ pub does-nothing : (a : Step) (d : List ℕ) (r : Run) → a ≡ record { sessio
 does-nothing a d r q = rw q (record { session = refl; counted = sym (add-zero (r .octets)); written = put-nothing d (r .octets) })
 
 -- ---- an offer
-pub not-taken : (s t : Session) (a : Taken) (r : Refusal) → a ≡ Refused r → takenOf s t a ≡ record { session = s; octets = [] }
+pub not-taken : (kind : Kind) (s t : Session) (a : Taken) (r : Refusal) → a ≡ Refused r → takenOf kind s t a ≡ record { session = s; octets = [] }
 unfolding takenOf
-not-taken s t a r q = ap (takenOf s t) q
+not-taken kind s t a r q = ap (takenOf kind s t) q
 
 pub lost-is : (a : Taken) (lost : ℕ) → a ≡ Accepted lost → lostIn a ≡ lost
 unfolding lostIn
 lost-is a lost q = ap lostIn q
 
-pub taken : (s t : Session) (a : Taken) (lost at : ℕ) (d e : List ℕ) → a ≡ Accepted lost → Put d at (replicate lost erasure) e → Does (takenOf s t a) at d (record { session = t; octets = at + lost }) e
+pub taken :
+    (kind : Kind) (s t : Session) (a : Taken) (lost at : ℕ) (d e : List ℕ) →
+    a ≡ Accepted lost →
+    Put d at (replicate lost (kind .erasure)) e →
+    Does (takenOf kind s t a) at d (record { session = t; octets = at + lost }) e
 unfolding takenOf
-taken s t a lost at d e q p = rw q (record { session = refl; counted = ap (λ (n : ℕ). at + n) (sym (length-replicate lost erasure)); written = p })
+taken kind s t a lost at d e q p = rw q (record { session = refl; counted = ap (λ (n : ℕ). at + n) (sym (length-replicate lost (kind .erasure))); written = p })
 
 pub twelve-no : (lost : ℕ) → false ≡ isTwelve (Accepted lost)
 unfolding isTwelve
@@ -136,41 +164,42 @@ pub twelve-is : (r : Refusal) (n : ℕ) → n ≡ numberOf r → eqb n 12 ≡ is
 unfolding isTwelve
 twelve-is r n e = ap (λ (i : ℕ). eqb i 12) e
 
-step-later : (v : Vocoder) (s : Session) (h : Heard) (b : Bool) → b ≡ isTwelve (offeredTo v s h .answer) → b ≡ true → andThen (pouring v s) (λ t. offering v t h) ≡ stepOf v s h
+step-later : (kind : Kind) (s : Session) (h : Heard) (b : Bool) → b ≡ isTwelve (offeredTo (kind .table) s h .answer) → b ≡ true →
+    andThen (pouring (kind .table) s) (λ t. offering kind t h) ≡ stepOf kind s h
 unfolding stepOf
-step-later v s h b e q = let z : isTwelve (offeredTo v s h .answer) ≡ true = sym e ∙ q in simp z
+step-later kind s h b e q = let z : isTwelve (offeredTo (kind .table) s h .answer) ≡ true = sym e ∙ q in simp z
 
-step-once : (v : Vocoder) (s : Session) (h : Heard) (b : Bool) → b ≡ isTwelve (offeredTo v s h .answer) → b ≡ false → offering v s h ≡ stepOf v s h
+step-once : (kind : Kind) (s : Session) (h : Heard) (b : Bool) → b ≡ isTwelve (offeredTo (kind .table) s h .answer) → b ≡ false → offering kind s h ≡ stepOf kind s h
 unfolding stepOf
-step-once v s h b e q = let z : isTwelve (offeredTo v s h .answer) ≡ false = sym e ∙ q in simp z
+step-once kind s h b e q = let z : isTwelve (offeredTo (kind .table) s h .answer) ≡ false = sym e ∙ q in simp z
 
-offering-is : (v : Vocoder) (s : Session) (h : Heard) (o : Offered) → o ≡ offeredTo v s h → takenOf s (o .session) (o .answer) ≡ offering v s h
+offering-is : (kind : Kind) (s : Session) (h : Heard) (o : Offered) → o ≡ offeredTo (kind .table) s h → takenOf kind s (o .session) (o .answer) ≡ offering kind s h
 unfolding offering
-offering-is v s h o e = ap (λ (x : Offered). takenOf s (x .session) (x .answer)) e
+offering-is kind s h o e = ap (λ (x : Offered). takenOf kind s (x .session) (x .answer)) e
 
 -- ---- a step: once, or on 12 a second time after pouring
-module _ (v : Vocoder) (s : Session) (h : Heard) (at : ℕ) (d : List ℕ) (o : Offered) (b : Bool) (first : o ≡ offeredTo v s h) (twelve : b ≡ isTwelve (o .answer)) where
-  pub once-does : (r : Run) (e : List ℕ) → b ≡ false → Does (takenOf s (o .session) (o .answer)) at d r e → Does (stepOf v s h) at d r e
+module _ (kind : Kind) (s : Session) (h : Heard) (at : ℕ) (d : List ℕ) (o : Offered) (b : Bool) (first : o ≡ offeredTo (kind .table) s h) (twelve : b ≡ isTwelve (o .answer)) where
+  pub once-does : (r : Run) (e : List ℕ) → b ≡ false → Does (takenOf kind s (o .session) (o .answer)) at d r e → Does (stepOf kind s h) at d r e
   once-does r e q x =
-      does-as _ _ at d e r (offering-is v s h o first ∙ step-once v s h b (twelve ∙ ap (λ (y : Offered). isTwelve (y .answer)) first) q) x
+      does-as _ _ at d e r (offering-is kind s h o first ∙ step-once kind s h b (twelve ∙ ap (λ (y : Offered). isTwelve (y .answer)) first) q) x
 
-  pub later-does : (p r : Run) (e e′ : List ℕ) (o′ : Offered) → b ≡ true → Does (pouring v s) at d p e → o′ ≡ offeredTo v (p .session) h
-      → Does (takenOf (p .session) (o′ .session) (o′ .answer)) (p .octets) e r e′ → Does (stepOf v s h) at d r e′
+  pub later-does : (p r : Run) (e e′ : List ℕ) (o′ : Offered) → b ≡ true → Does (pouring (kind .table) s) at d p e → o′ ≡ offeredTo (kind .table) (p .session) h
+      → Does (takenOf kind (p .session) (o′ .session) (o′ .answer)) (p .octets) e r e′ → Does (stepOf kind s h) at d r e′
   later-does p r e e′ o′ q x y z =
-      does-as _ _ at d e′ r (step-later v s h b (twelve ∙ ap (λ (y : Offered). isTwelve (y .answer)) first) q)
-      (does-then (pouring v s) _ (λ t. offering v t h) at d e e′ p r x (offering-is v (p .session) h o′ y ∙ ap (λ (t : Session). offering v t h) (x .session)) z)
+      does-as _ _ at d e′ r (step-later kind s h b (twelve ∙ ap (λ (y : Offered). isTwelve (y .answer)) first) q)
+      (does-then (pouring (kind .table) s) _ (λ t. offering kind t h) at d e e′ p r x (offering-is kind (p .session) h o′ y ∙ ap (λ (t : Session). offering kind t h) (x .session)) z)
 
-pub lost-fit : (v : Vocoder) (s : Session) (h : Heard) (o : Offered) → o ≡ offeredTo v s h → lostIn (o .answer) ≤ 1000
+pub lost-fit : (v : FrameTable) (s : Session) (h : Heard) (o : Offered) → o ≡ offeredTo v s h → lostIn (o .answer) ≤ 1000
 lost-fit v s h o e = rw e (lost-few v s h)
 
 -- ---- pouring, into room for any group
-module _ (v : Vocoder) (w : T (within 22 v)) (z : T (erases v)) (s : Session) (room room′ : List ℕ) (long : length room ≡ 1840) where
+module _ (v : FrameTable) (w : T (within 22 v)) (z : T (erases v)) (s : Session) (room room′ : List ℕ) (long : length room ≡ 1840) where
   pub pours-none : (a : Written) (r : Refusal) → Writes (pourMade v s) room a room′ → a ≡ written.Refused r → pouring v s ≡ record { session = s; octets = [] }
   unfolding pouring pouredOf writtenOf
   pours-none a r x q = go (pourMade v s) refl (sym q ∙ x .answer)
     where
       go : (m : Made) → pourMade v s ≡ m → written.Refused r ≡ writtenOf m room → pouredOf s m ≡ record { session = s; octets = [] }
-      go (refused y) e a = refl
+      go (refusedOutput y) e a = refl
       go (octets y) e a =
           let h : length y ≤ length room = omega (arith, pour-most v w z s y e) in
           let k : leb (length y) (length room) ≡ true = le-leb _ _ h in
@@ -189,7 +218,7 @@ module _ (v : Vocoder) (w : T (within 22 v)) (z : T (erases v)) (s : Session) (r
   pours-some a n x q = go (pourMade v s) refl (sym q ∙ x .answer) (x .output)
     where
       go : (m : Made) → pourMade v s ≡ m → written.Octets n ≡ writtenOf m room → room′ ≡ outAfter m room → Poured n
-      go (refused y) e a o = apart (cc)
+      go (refusedOutput y) e a o = apart (cc)
       go (octets y) e a o =
           let h : length y ≤ length room = omega (arith, pour-most v w z s y e) in
           let k : leb (length y) (length room) ≡ true = le-leb _ _ h in
@@ -205,84 +234,108 @@ module _ (v : Vocoder) (w : T (within 22 v)) (z : T (erases v)) (s : Session) (r
           }
 
   -- the run after it: what was poured stands where it was put
-  pub poured-does : (a : Written) (n at : ℕ) (d e : List ℕ) (t : Session) → Writes (pourMade v s) room a room′ → a ≡ written.Octets n → t ≡ afterPour s a → Put d at (take n room′) e → Does (pouring v s) at d (record { session = t; octets = at + n }) e
+  pub poured-does :
+      (a : Written) (n at : ℕ) (d e : List ℕ) (t : Session) →
+      Writes (pourMade v s) room a room′ →
+      a ≡ written.Octets n →
+      t ≡ afterPour s a →
+      Put d at (take n room′) e →
+      Does (pouring v s) at d (record { session = t; octets = at + n }) e
   unfolding afterPour
   poured-does a n at d e t x q y p =
       let b = pours-some a n x q in
       rw (b .step) (record { session = y ∙ ap (afterPour s) q; counted = ap (λ (i : ℕ). at + i) (b .count); written = p })
 
 -- ---- the run over the packets, one after the other
-module _ (v : Vocoder) (s : Session) (at : ℕ) (d : List ℕ) where
-  pub run-none : (f : ℕ → Heard) (r : Run) → r .session ≡ s → r .octets ≡ at → Does (runOf v s (upTo f 0)) at d r d
+module _ (kind : Kind) (s : Session) (at : ℕ) (d : List ℕ) where
+  pub run-none : (f : ℕ → Heard) (r : Run) → r .session ≡ s → r .octets ≡ at → Does (runOf kind s (upTo f 0)) at d r d
   unfolding runOf upTo
   run-none f r e q = record { session = e; counted = q ∙ sym (add-zero at); written = put-nothing d at }
 
-  pub run-again : (f : ℕ → Heard) (i : ℕ) (r r′ : Run) (e e′ : List ℕ) → Does (runOf v s (upTo f i)) at d r e → Does (stepOf v (r .session) (f i)) (r .octets) e r′ e′ → Does (runOf v s (upTo f (i + 1))) at d r′ e′
+  pub run-again :
+      (f : ℕ → Heard) (i : ℕ) (r r′ : Run) (e e′ : List ℕ) →
+      Does (runOf kind s (upTo f i)) at d r e →
+      Does (stepOf kind (r .session) (f i)) (r .octets) e r′ e′ →
+      Does (runOf kind s (upTo f (i + 1))) at d r′ e′
   run-again f i r r′ e e′ x y =
-      does-as _ _ at d e′ r′ (sym (run-more v s f i)) (does-then (runOf v s (upTo f i)) _ (λ t. stepOf v t (f i)) at d e e′ r r′ x (ap (λ (t : Session). stepOf v t (f i)) (x .session)) y)
+      does-as _ _ at d e′ r′ (sym (run-more kind s f i)) (does-then (runOf kind s (upTo f i)) _ (λ t. stepOf kind t (f i)) at d e e′ r r′ x (ap (λ (t : Session). stepOf kind t (f i)) (x .session)) y)
 
-  pub run-all : (c : List ℕ) (i : ℕ) (r : Run) (e : List ℕ) → i ≡ countOf c → Does (runOf v s (upTo (heardAt c) i)) at d r e → Does (runOf v s (packetsIn c)) at d r e
+  pub run-all : (c : List ℕ) (i : ℕ) (r : Run) (e : List ℕ) → i ≡ countOf c → Does (runOf kind s (upTo (heardAt c) i)) at d r e → Does (runOf kind s (packetsIn c)) at d r e
   unfolding packetsIn
   run-all c i r e q x = rw (← q) x
 
 -- what it has recorded is few octets
-pub run-fits : (v : Vocoder) → T (within 22 v) → T (erases v) → (c : List ℕ) → good c ≡ true → (i n at : ℕ) → n ≡ countOf c → i ≤ n → at ≡ 7 → (s : Session) → s ≡ firstSession (packetsIn c)
-    → (d e : List ℕ) (r : Run) → Does (runOf v s (upTo (heardAt c) i)) at d r e → r .octets ≤ largest
-run-fits v w z c g i n at q h a s f d e r x =
+pub run-fits : (kind : Kind) → T (within 22 (kind .table)) → T (erases (kind .table)) → (c : List ℕ) → good c ≡ true → (i n at : ℕ) → n ≡ countOf c → i ≤ n → at ≡ 7
+    → (s : Session) → s ≡ firstSession (packetsIn c)
+    → (d e : List ℕ) (r : Run) → Does (runOf kind s (upTo (heardAt c) i)) at d r e → r .octets ≤ largest
+run-fits kind w z c g i n at q h a s f d e r x =
     let few : length (upTo (heardAt c) i) ≤ 256 = omega (arith, length-upTo (heardAt c) i, good-is c g .few) in
-    let y = run-few v w z (packetsIn c) (upTo (heardAt c) i) few in
-    let k : length (runOf v s (upTo (heardAt c) i) .octets) ≡ length (runOf v (firstSession (packetsIn c)) (upTo (heardAt c) i) .octets) = ap (λ (t : Session). length (runOf v t (upTo (heardAt c) i) .octets)) f in
+    let y = run-few kind w z (packetsIn c) (upTo (heardAt c) i) few in
+    let k : length (runOf kind s (upTo (heardAt c) i) .octets) ≡ length (runOf kind (firstSession (packetsIn c)) (upTo (heardAt c) i) .octets) =
+    ap (λ (t : Session). length (runOf kind t (upTo (heardAt c) i) .octets)) f in
     omega (arith, y, x .counted)
 
-pub all-fits : (v : Vocoder) → T (within 22 v) → T (erases v) → (c : List ℕ) → good c ≡ true → (s : Session) → s ≡ firstSession (packetsIn c) → (d e : List ℕ) (r : Run) → Does (runOf v s (packetsIn c)) 7 d r e → r .octets ≤ largest
+pub all-fits :
+    (kind : Kind) →
+    T (within 22 (kind .table)) →
+    T (erases (kind .table)) →
+    (c : List ℕ) →
+    good c ≡ true →
+    (s : Session) →
+    s ≡ firstSession (packetsIn c) →
+    (d e : List ℕ) (r : Run) →
+    Does (runOf kind s (packetsIn c)) 7 d r e →
+    r .octets ≤ largest
 unfolding packetsIn
-all-fits v w z c g s f d e r x = run-fits v w z c g (countOf c) (countOf c) 7 refl (le-refl _) refl s f d e r x
+all-fits kind w z c g s f d e r x = run-fits kind w z c g (countOf c) (countOf c) 7 refl (le-refl _) refl s f d e r x
 
 -- ---- the opening octets, written before anything else
-pub opening-put : (v : Vocoder) (o out out′ : List ℕ) (r : Written) → Writes (recordingMade v o []) out r out′ → Put out 0 o out′
+pub opening-put : (kind : Kind) (out out′ : List ℕ) (r : Written) → Writes (recordingMade kind []) out r out′ → Put out 0 (kind .opening) out′
 unfolding recordingMade entries outAfter over
-opening-put v o out out′ r x h =
-    let e : recordingMade v o [] ≡ octets o = ap octets (append-nil o) in
-    let k : length o ≤ length out = omega arith in
-    x .output ∙ ap (λ (m : Made). outAfter m out) e ∙ simp (le-leb _ _ k) (ap (λ (i : ℕ). o ++ drop i out) (sym (zero-add (length o))))
+opening-put kind out out′ r x h =
+    let e : recordingMade kind [] ≡ octets (kind .opening) = ap octets (append-nil (kind .opening)) in
+    let k : length (kind .opening) ≤ length out = omega arith in
+    x .output ∙ ap (λ (m : Made). outAfter m out) e ∙ simp (le-leb _ _ k) (ap (λ (i : ℕ). kind .opening ++ drop i out) (sym (zero-add (length (kind .opening)))))
 
 -- ---- the whole
-whole : (v : Vocoder) (o c out out₁ out₂ : List ℕ) (r : Run) → length o ≡ 7 → Put out 0 o out₁ → Does (andThen (runOf v (firstSession (packetsIn c)) (packetsIn c)) (pouring v)) 7 out₁ r out₂
-    → (r .octets ≡ length (recordingOf v o c)) × Put out 0 (recordingOf v o c) out₂
-unfolding recordingOf recordedOf
-whole v o c out out₁ out₂ r l p d =
-    let ys = andThen (runOf v (firstSession (packetsIn c)) (packetsIn c)) (pouring v) .octets in
-    let e : 0 + length o ≡ 7 = omega arith in
-    let q : Put out₁ (0 + length o) ys out₂ = rw e (d .written) in
-    (d .counted ∙ omega (arith, length-append o ys, l), put-then out out₁ out₂ 0 o ys p q)
+whole : (kind : Kind) (c out out₁ out₂ : List ℕ) (r : Run) → length (kind .opening) ≡ 7 → Put out 0 (kind .opening) out₁
+    → Does (andThen (runOf kind (firstSession (packetsIn c)) (packetsIn c)) (pouring (kind .table))) 7 out₁ r out₂
+    → (r .octets ≡ length (captureRecording kind c)) × Put out 0 (captureRecording kind c) out₂
+unfolding captureRecording entriesRecorded
+whole kind c out out₁ out₂ r l p d =
+    let ys = andThen (runOf kind (firstSession (packetsIn c)) (packetsIn c)) (pouring (kind .table)) .octets in
+    let e : 0 + length (kind .opening) ≡ 7 = omega arith in
+    let q : Put out₁ (0 + length (kind .opening)) ys out₂ = rw e (d .written) in
+    (d .counted ∙ omega (arith, length-append (kind .opening) ys, l), put-then out out₁ out₂ 0 (kind .opening) ys p q)
 
-pub whole-run : (v : Vocoder) (o c out out₁ out₂ out₃ : List ℕ) (s : Session) (r r′ : Run) → length o ≡ 7 → s ≡ firstSession (packetsIn c) → Put out 0 o out₁
-    → Does (runOf v s (packetsIn c)) 7 out₁ r out₂ → Does (pouring v (r .session)) (r .octets) out₂ r′ out₃ → (r′ .octets ≡ length (recordingOf v o c)) × Put out 0 (recordingOf v o c) out₃
-whole-run v o c out out₁ out₂ out₃ s r r′ l e p x y =
-    let k : Does (runOf v (firstSession (packetsIn c)) (packetsIn c)) 7 out₁ r out₂ = rw (← e) x in
-    whole v o c out out₁ out₃ r′ l p (does-then (runOf v (firstSession (packetsIn c)) (packetsIn c)) _ (pouring v) 7 out₁ out₂ out₃ r r′ k (ap (pouring v) (k .session)) y)
+pub whole-run : (kind : Kind) (c out out₁ out₂ out₃ : List ℕ) (s : Session) (r r′ : Run) → length (kind .opening) ≡ 7 → s ≡ firstSession (packetsIn c) → Put out 0 (kind .opening) out₁
+    → Does (runOf kind s (packetsIn c)) 7 out₁ r out₂ → Does (pouring (kind .table) (r .session)) (r .octets) out₂ r′ out₃
+    → (r′ .octets ≡ length (captureRecording kind c)) × Put out 0 (captureRecording kind c) out₃
+whole-run kind c out out₁ out₂ out₃ s r r′ l e p x y =
+    let k : Does (runOf kind (firstSession (packetsIn c)) (packetsIn c)) 7 out₁ r out₂ = rw (← e) x in
+    whole kind c out out₁ out₃ r′ l p (does-then (runOf kind (firstSession (packetsIn c)) (packetsIn c)) _ (pouring (kind .table)) 7 out₁ out₂ out₃ r r′ k (ap (pouring (kind .table)) (k .session)) y)
 
 -- nothing is larger
-pub largest-is : (v : Vocoder) → T (within 22 v) → T (erases v) → (o c : List ℕ) → length o ≡ 7 → good c ≡ true → length (recordingOf v o c) ≤ largest
-unfolding recordingOf recordedOf packetsIn
-largest-is v w z o c l g =
+pub largest-is : (kind : Kind) → T (within 22 (kind .table)) → T (erases (kind .table)) → (c : List ℕ) → length (kind .opening) ≡ 7 → good c ≡ true → length (captureRecording kind c) ≤ largest
+unfolding captureRecording entriesRecorded packetsIn
+largest-is kind w z c l g =
     let few : length (packetsIn c) ≤ 256 = omega (arith, length-upTo (heardAt c) (countOf c), good-is c g .few) in
-    let y = all-few v w z (packetsIn c) (packetsIn c) few in
-    omega (arith, y, length-append o (andThen (runOf v (firstSession (packetsIn c)) (packetsIn c)) (pouring v) .octets))
+    let y = all-few kind w z (packetsIn c) (packetsIn c) few in
+    omega (arith, y, length-append (kind .opening) (andThen (runOf kind (firstSession (packetsIn c)) (packetsIn c)) (pouring (kind .table)) .octets))
 
-module _ (v : Vocoder) (o c out : List ℕ) where
-  pub answer-bad : good c ≡ false → (outcome.BadCapture ≡ recorded v o c out) × (out ≡ outputOf v o c out)
-  unfolding recorded outputOf
+module _ (kind : Kind) (c out : List ℕ) where
+  pub answer-bad : good c ≡ false → (outcome.BadCapture ≡ recordAnswer kind c out) × (out ≡ recordOutput kind c out)
+  unfolding recordAnswer recordOutput
   answer-bad e = (simp e, simp e)
 
-  pub answer-no-room : good c ≡ true → length out < length (recordingOf v o c) → (outcome.Recorded (written.Refused NoRoom) ≡ recorded v o c out) × (out ≡ outputOf v o c out)
-  unfolding recorded outputOf writtenOf outAfter
+  pub answer-no-room : good c ≡ true → length out < length (captureRecording kind c) → (outcome.Recorded (written.Refused NoRoom) ≡ recordAnswer kind c out) × (out ≡ recordOutput kind c out)
+  unfolding recordAnswer recordOutput writtenOf outAfter
   answer-no-room e h = (simp (e, lt-leb _ _ h), simp (e, lt-leb _ _ h))
 
-  pub answer-octets : good c ≡ true → length (recordingOf v o c) ≤ length out → (n : ℕ) (after : List ℕ) → n ≡ length (recordingOf v o c) → Put out 0 (recordingOf v o c) after
-      → (outcome.Recorded (written.Octets n) ≡ recorded v o c out) × (after ≡ outputOf v o c out)
-  unfolding recorded outputOf writtenOf outAfter over
+  pub answer-octets : good c ≡ true → length (captureRecording kind c) ≤ length out → (n : ℕ) (after : List ℕ) → n ≡ length (captureRecording kind c) → Put out 0 (captureRecording kind c) after
+      → (outcome.Recorded (written.Octets n) ≡ recordAnswer kind c out) × (after ≡ recordOutput kind c out)
+  unfolding recordAnswer recordOutput writtenOf outAfter over
   answer-octets e h n after q p =
-      let w = recordingOf v o c in
+      let w = captureRecording kind c in
       let k : 0 + length w ≤ length out = omega arith in
       (simp (e, le-leb _ _ h) (ap (λ (i : ℕ). outcome.Recorded (written.Octets i)) q), simp (e, le-leb _ _ h) (p k ∙ ap (λ (i : ℕ). w ++ drop i out) (zero-add (length w))))

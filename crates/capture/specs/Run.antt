@@ -1,4 +1,4 @@
--- Document 01, "Capture program": the run of a session over the packets of a capture, and its recording. Over any frame table.
+-- Document 01, "Capture program": the run of a session over the packets of a capture, and its recording. Of any kind.
 use Prim.Native.Nat.{ℕ, _+_, _*_, _≤_}
 use mathlib.Core.Path.{_≡_}
 use mathlib.Core.Bool.{Bool, false, cond}
@@ -6,17 +6,20 @@ use mathlib.Core.List.{List, [], _∷_, _++_}
 use lib.ListN.{length, replicate}
 use lib.Dec.{eqb}
 use Rattle.octets.specs.Octets.{over}
-use Rattle.frame.specs.Table.{Vocoder, erasure}
-use Rattle.frame.specs.Answers.{numberOf}
-use Rattle.frame.specs.Outputs.{Made, octets, refused, writtenOf, outAfter}
-use Rattle.frame.specs.declared.Form.{Form}
-use Rattle.frame.specs.declared.Form.the-variants.{Interleaved}
-use Rattle.session.specs.Session.{never, fresh, offered, pourMade, ended}
+use Rattle.frame.specs.declared.Vocoder.{Vocoder}
+use Rattle.frame.specs.FrameTable.{FrameTable}
+use Rattle.answers.specs.Answers.{numberOf}
+use Rattle.answers.specs.Outputs.{Made, octets, refusedOutput, writtenOf, outAfter}
+use Rattle.form.specs.declared.Form.{Form}
+use Rattle.form.specs.declared.Form.the-variants.{Interleaved}
+use Rattle.form.specs.Agreed.{vocoderOf}
+use Rattle.entries.specs.Kind.{Kind, kindOf}
+use Rattle.session.specs.Session.{neverOpened, fresh, offered, pourMade, ended}
 use Rattle.session.specs.declared.Session.{Session}
 use Rattle.session.specs.declared.Offered.{Offered}
 use Rattle.session.specs.declared.Taken.{Taken}
 use Rattle.session.specs.declared.Taken.the-variants.{Accepted, Refused}
-use Rattle.capture.specs.Table.{Heard, packetsIn, good}
+use Rattle.capture.specs.Capture.{Heard, packetsIn, good}
 use Rattle.capture.specs.declared.Run.{Run}
 use Rattle.capture.specs.declared.Outcome.{Outcome}
 use Rattle.capture.specs.declared.Outcome.the-variants as outcome
@@ -34,19 +37,27 @@ andThen a f = record { session = f (a .session) .session; octets = a .octets ++ 
 unfoldable pub captureForm : Form
 captureForm = Interleaved (record { «max_l» = 7; «max_b» = 10 })
 
+-- the vocoder of a capture's packets
+abbrev pub captureVocoder : Vocoder
+captureVocoder = vocoderOf captureForm
+
+-- the kind of its recording
+abbrev pub captureKind : Kind
+captureKind = kindOf captureVocoder
+
 -- "The session takes the first packet's source"
 unfoldable pub firstSession : List Heard → Session
-firstSession [] = never
+firstSession [] = neverOpened
 firstSession (h ∷ hs) = fresh (h .source) captureForm
 
 -- a packet of the capture, offered with its own numbers
-unfoldable pub offeredTo : Vocoder → Session → Heard → Offered
+unfoldable pub offeredTo : FrameTable → Session → Heard → Offered
 offeredTo v s h = offered v s (h .source) (h .sequence) (h .timestamp) (h .payload)
 
 -- "reported lost frames become entries 0E"; a refusal "skips the packet"
-unfoldable pub takenOf : Session → Session → Taken → Step
-takenOf s t (Accepted lost) = record { session = t; octets = replicate lost erasure }
-takenOf s t (Refused r) = record { session = s; octets = [] }
+unfoldable pub takenOf : Kind → Session → Session → Taken → Step
+takenOf kind s t (Accepted lost) = record { session = t; octets = replicate lost (kind .erasure) }
+takenOf kind s t (Refused r) = record { session = s; octets = [] }
 
 -- the lost frames of an answer
 unfoldable pub lostIn : Taken → ℕ
@@ -54,16 +65,16 @@ lostIn (Accepted lost) = lost
 lostIn (Refused r) = 0
 
 -- the step that an offer is ("Capture program")
-unfoldable pub offering : Vocoder → Session → Heard → Step
-offering v s h = takenOf s (offeredTo v s h .session) (offeredTo v s h .answer)
+unfoldable pub offering : Kind → Session → Heard → Step
+offering kind s h = takenOf kind s (offeredTo (kind .table) s h .session) (offeredTo (kind .table) s h .answer)
 
 -- the held group poured, if there is one
 unfoldable pub pouredOf : Session → Made → Step
 pouredOf s (octets w) = record { session = ended s; octets = w }
-pouredOf s (refused r) = record { session = s; octets = [] }
+pouredOf s (refusedOutput r) = record { session = s; octets = [] }
 
 -- the step that pouring is: the group's entries, and the session after it
-unfoldable pub pouring : Vocoder → Session → Step
+unfoldable pub pouring : FrameTable → Session → Step
 pouring v s = pouredOf s (pourMade v s)
 
 -- "on 12": the answer that tells of a later group
@@ -72,22 +83,22 @@ isTwelve (Accepted lost) = false
 isTwelve (Refused r) = eqb (numberOf r) 12
 
 -- "on 12 it pours and offers again; any other refusal skips the packet"
-unfoldable pub stepOf : Vocoder → Session → Heard → Step
-stepOf v s h =
-    cond (isTwelve (offeredTo v s h .answer)) (andThen (pouring v s) (λ t. offering v t h)) (offering v s h)
+unfoldable pub stepOf : Kind → Session → Heard → Step
+stepOf kind s h =
+    cond (isTwelve (offeredTo (kind .table) s h .answer)) (andThen (pouring (kind .table) s) (λ t. offering kind t h)) (offering kind s h)
 
 -- all packets of the capture, one after the other
-unfoldable pub runOf : Vocoder → Session → List Heard → Step
-runOf v s [] = record { session = s; octets = [] }
-runOf v s (h ∷ hs) = andThen (stepOf v s h) (λ t. runOf v t hs)
+unfoldable pub runOf : Kind → Session → List Heard → Step
+runOf kind s [] = record { session = s; octets = [] }
+runOf kind s (h ∷ hs) = andThen (stepOf kind s h) (λ t. runOf kind t hs)
 
 -- what is recorded of these packets: "at the end it pours what is held"
-unfoldable pub recordedOf : Vocoder → List Heard → List ℕ
-recordedOf v hs = andThen (runOf v (firstSession hs) hs) (pouring v) .octets
+unfoldable pub entriesRecorded : Kind → List Heard → List ℕ
+entriesRecorded kind hs = andThen (runOf kind (firstSession hs) hs) (pouring (kind .table)) .octets
 
 -- the recording of a capture: the opening octets, and what is recorded of its packets
-unfoldable pub recordingOf : Vocoder → List ℕ → List ℕ → List ℕ
-recordingOf v opening c = opening ++ recordedOf v (packetsIn c)
+unfoldable pub captureRecording : Kind → List ℕ → List ℕ
+captureRecording kind c = kind .opening ++ entriesRecorded kind (packetsIn c)
 
 -- the most octets that a recording can have: the opening, 300 for each of 256 packets that begins a group of its own, with ten frames of
 -- 22 octets at 80 places, and 1,000 lost frames before each but the first
@@ -107,9 +118,9 @@ pub record Does (step : Step) (at : ℕ) (before : List ℕ) (r : Run) (after : 
   pub written : Put before at (step .octets) after
 
 -- "A bad capture gives the line "bad capture" and no more. Otherwise it writes a recording."
-unfoldable pub recorded : Vocoder → List ℕ → List ℕ → List ℕ → Outcome
-recorded v opening c out = cond (good c) (outcome.Recorded (writtenOf (octets (recordingOf v opening c)) out)) outcome.BadCapture
+unfoldable pub recordAnswer : Kind → List ℕ → List ℕ → Outcome
+recordAnswer kind c out = cond (good c) (outcome.Recorded (writtenOf (octets (captureRecording kind c)) out)) outcome.BadCapture
 
 -- the lent output after it: a bad capture and 15 leave it as it was
-unfoldable pub outputOf : Vocoder → List ℕ → List ℕ → List ℕ → List ℕ
-outputOf v opening c out = cond (good c) (outAfter (octets (recordingOf v opening c)) out) out
+unfoldable pub recordOutput : Kind → List ℕ → List ℕ → List ℕ
+recordOutput kind c out = cond (good c) (outAfter (octets (captureRecording kind c)) out) out

@@ -1,21 +1,20 @@
 // Captures (document 01, "Capture program"): the packets that a box heard, turned into a recording.
-use frame::Form;
-use frame::Limits;
-use frame::Refusal;
-use frame::Written;
+use answers::Refusal;
+use answers::Written;
+use form::Form;
+use form::Limits;
+use frame::Vocoder;
 use session::Offered;
 use session::Session;
 use session::Taken;
 ghost use mathlib.Core.Path.{_≡_};
 ghost use mathlib.Core.Bool.{true};
-ghost use Prim.Native.Nat.{_+_, _*_, _<_, _≤_};
+ghost use Prim.Native.Nat.{_+_, _*_, _≤_};
 ghost use lib.ListN.{length, replicate};
 ghost use lib.Dec.{leb};
-ghost use Rattle.frame.specs.Table.{evrc, erasure};
-ghost use Rattle.recording.specs.Recording.{evrcOpening};
-ghost use Rattle.capture.specs.Table.{countOf, lengthAt, lengths, startAt, heardAt, packetsIn, endFault, faultOf, good};
-ghost use Rattle.capture.specs.Run.{firstSession, offeredTo, lostIn, largest, takenOf, isTwelve, pouring, stepOf};
-ghost use Rattle.capture.specs.Run.{runOf, recordingOf, Put, Does, recorded, outputOf};
+ghost use Rattle.capture.specs.Capture.{countOf, lengthAt, lengths, startAt, heardAt, packetsIn, endFault, faultOf, good};
+ghost use Rattle.capture.specs.Run.{captureKind, firstSession, offeredTo, lostIn, largest, takenOf, isTwelve, pouring, stepOf, runOf};
+ghost use Rattle.capture.specs.Run.{captureRecording, Put, Does, recordAnswer, recordOutput};
 
 // The most octets that the recording of a capture can have.
 pub const LARGEST: usize = 331807;
@@ -129,7 +128,7 @@ fn offer_packet(session: Session, capture: &[u8], i: usize, start: usize) -> Off
     requires { ⌜ (2 + 12 * (i + 1) ≤ length (now capture))
         × (start ≡ startAt (now capture) i)
         × (start + lengthAt (now capture) i ≤ length (now capture)) ⌝ }
-    ensures { λ r. ⌜ r ≡ offeredTo evrc session (heardAt (now (capture .entry)) i) ⌝ }
+    ensures { λ r. ⌜ r ≡ offeredTo (captureKind .table) session (heardAt (now (capture .entry)) i) ⌝ }
 {
     let row = 2 + 12 * i;
     let source = octets::four(capture, row);
@@ -158,7 +157,7 @@ fn put(out: &mut [u8], at: usize, w: &[u8])
 
 // Writes an erasure for each lost frame over out from index at on, if they fit there.
 fn put_lost(out: &mut [u8], at: usize, lost: usize)
-    ensures { λ _. ⌜ Put (now (out .entry)) at (replicate lost erasure) (now (out .exit)) ⌝ }
+    ensures { λ _. ⌜ Put (now (out .entry)) at (replicate lost (captureKind .erasure)) (now (out .exit)) ⌝ }
 {
     if at <= out.len() {
         if lost <= out.len() - at {
@@ -170,7 +169,7 @@ fn put_lost(out: &mut [u8], at: usize, lost: usize)
 // The run after its session's group was poured, if there is one.
 fn pour_group(run: Run, out: &mut [u8]) -> Run
     requires { ⌜ run .octets ≤ largest ⌝ }
-    ensures { λ r. ⌜ Does (pouring evrc (run .session)) (run .octets) (now (out .entry)) r (now (out .exit)) ⌝ }
+    ensures { λ r. ⌜ Does (pouring (captureKind .table) (run .session)) (run .octets) (now (out .entry)) r (now (out .exit)) ⌝ }
 {
     let mut room = [0u8; 1840];
     let session = run.session;
@@ -193,7 +192,7 @@ fn pour_group(run: Run, out: &mut [u8]) -> Run
 // The run after an offer: lost frames are recorded as erasures, and a refusal leaves it as it was.
 fn take(run: Run, offered: Offered, out: &mut [u8]) -> Run
     requires { ⌜ (run .octets ≤ 2 * largest) × (lostIn (offered .answer) ≤ 1000) ⌝ }
-    ensures { λ r. ⌜ Does (takenOf (run .session) (offered .session) (offered .answer)) (run .octets) (now (out .entry)) r (now (out .exit)) ⌝ }
+    ensures { λ r. ⌜ Does (takenOf captureKind (run .session) (offered .session) (offered .answer)) (run .octets) (now (out .entry)) r (now (out .exit)) ⌝ }
 {
     let at = run.octets;
     let answer = offered.answer;
@@ -229,7 +228,7 @@ fn step(run: Run, capture: &[u8], i: usize, start: usize, out: &mut [u8]) -> Run
         × (start ≡ startAt (now capture) i)
         × (start + lengthAt (now capture) i ≤ length (now capture))
         × (run .octets ≤ largest) ⌝ }
-    ensures { λ r. ⌜ Does (stepOf evrc (run .session) (heardAt (now (capture .entry)) i)) (run .octets) (now (out .entry)) r (now (out .exit)) ⌝ }
+    ensures { λ r. ⌜ Does (stepOf captureKind (run .session) (heardAt (now (capture .entry)) i)) (run .octets) (now (out .entry)) r (now (out .exit)) ⌝ }
 {
     let session = run.session;
     let offered = offer_packet(session, capture, i, start);
@@ -249,7 +248,7 @@ fn first_session(capture: &[u8], count: usize) -> Session
     requires { ⌜ (2 + 12 * count ≤ length (now capture)) × (count ≡ countOf (now capture)) ⌝ }
     ensures { λ r. ⌜ r ≡ firstSession (packetsIn (now (capture .entry))) ⌝ }
 {
-    let none = session::closed();
+    let none = session::never_opened();
     if count == 0 {
         return none;
     }
@@ -268,7 +267,7 @@ fn run_packets(begun: Run, capture: &[u8], count: usize, out: &mut [u8]) -> Run
         × (count ≡ countOf (now capture))
         × (begun .octets ≡ 7)
         × (begun .session ≡ firstSession (packetsIn (now capture))) ⌝ }
-    ensures { λ r. ⌜ Does (runOf evrc (begun .session) (packetsIn (now (capture .entry)))) (begun .octets) (now (out .entry)) r (now (out .exit)) ⌝ }
+    ensures { λ r. ⌜ Does (runOf captureKind (begun .session) (packetsIn (now (capture .entry)))) (begun .octets) (now (out .entry)) r (now (out .exit)) ⌝ }
 {
     let mut run = begun;
     let mut start = 2 + 12 * count;
@@ -284,11 +283,11 @@ fn run_packets(begun: Run, capture: &[u8], count: usize, out: &mut [u8]) -> Run
 // Runs over a good capture and gives the octets of its recording, which is written over out if it fits there.
 fn run_capture(capture: &[u8], out: &mut [u8]) -> usize
     requires { ⌜ good (now capture) ≡ true ⌝ }
-    ensures { λ r. ⌜ (r ≡ length (recordingOf evrc evrcOpening (now (capture .entry))))
-        × Put (now (out .entry)) 0 (recordingOf evrc evrcOpening (now (capture .entry))) (now (out .exit)) ⌝ }
+    ensures { λ r. ⌜ (r ≡ length (captureRecording captureKind (now (capture .entry))))
+        × Put (now (out .entry)) 0 (captureRecording captureKind (now (capture .entry))) (now (out .exit)) ⌝ }
 {
     let count = octets::two(capture, 0) as usize;
-    recording::write(&capture[..0], out);
+    recording::write(Vocoder::Evrc, &capture[..0], out);
     let session = first_session(capture, count);
     let begun = Run { session, octets: 7 };
     let run = run_packets(begun, capture, count, out);
@@ -299,7 +298,7 @@ fn run_capture(capture: &[u8], out: &mut [u8]) -> usize
 // The octets of the recording of a good capture: a run over no room.
 fn measure(capture: &[u8]) -> usize
     requires { ⌜ good (now capture) ≡ true ⌝ }
-    ensures { λ r. ⌜ r ≡ length (recordingOf evrc evrcOpening (now (capture .entry))) ⌝ }
+    ensures { λ r. ⌜ r ≡ length (captureRecording captureKind (now (capture .entry))) ⌝ }
 {
     let mut none = [0u8; 0];
     run_capture(capture, &mut none)
@@ -308,7 +307,7 @@ fn measure(capture: &[u8]) -> usize
 // Whether the recording of a good capture fits into so many octets. Where any does, nothing is measured.
 fn fits(capture: &[u8], room: usize) -> bool
     requires { ⌜ good (now capture) ≡ true ⌝ }
-    ensures { λ r. ⌜ r ≡ leb (length (recordingOf evrc evrcOpening (now (capture .entry)))) room ⌝ }
+    ensures { λ r. ⌜ r ≡ leb (length (captureRecording captureKind (now (capture .entry)))) room ⌝ }
 {
     if LARGEST <= room {
         return true;
@@ -318,8 +317,8 @@ fn fits(capture: &[u8], room: usize) -> bool
 
 // Turns a capture into a recording, written to out. The whole is judged before an octet is written.
 pub fn record(capture: &[u8], out: &mut [u8]) -> Outcome
-    ensures { λ r. ⌜ (r ≡ recorded evrc evrcOpening (now (capture .entry)) (now (out .entry)))
-        × (now (out .exit) ≡ outputOf evrc evrcOpening (now (capture .entry)) (now (out .entry))) ⌝ }
+    ensures { λ r. ⌜ (r ≡ recordAnswer captureKind (now (capture .entry)) (now (out .entry)))
+        × (now (out .exit) ≡ recordOutput captureKind (now (capture .entry)) (now (out .entry))) ⌝ }
 {
     let good = is_good(capture);
     if !good {

@@ -1,28 +1,39 @@
 -- What was laid out in lent octets reads back the same: each field is a window of the octets, and the window is the piece that was laid out. Assumes nothing.
-use Prim.Native.Nat.{ℕ, _+_, _-_, _%_, _≤_, _<_}
-use mathlib.Core.Bool.{Bool, true, false}
+use Prim.Native.Nat.{ℕ, _+_, _%_, _≤_, _<_}
+use mathlib.Core.Bool.{Bool, true, false, cond}
 use mathlib.Core.Path.{_≡_, refl, sym, ap, ap₂, _∙_}
 use mathlib.Core.List.{List, [], _∷_, _++_, map}
 use native.Mathlib.Nat.{add-zero, zero-add}
 use native.Mathlib.Omega.{arith}
-use lib.Dec.{leb}
-use lib.ListN.{length, take, drop, getD, replicate, length-append}
+use lib.ListN.{length, take, drop, getD, replicate, length-append, take-append-drop}
 use lib.Seq.{take-all}
-use borrow.Author.Tests.{leb-true}
-use Rattle.octets.specs.Octets.{over, shifted, twoAt, fourAt}
-use Rattle.octets.proofs.OctetLaws.{in-first, in-second, octet-window, two-window, four-window, two-back, four-back, length-two, length-four, changed-at}
-use Rattle.holding.proofs.GroupLaws.{all-intro}
+use Rattle.octets.specs.Octets.{over, shifted, sameOctets, twoAt, fourAt, twoOctets}
+use Rattle.octets.proofs.Logic.{apart}
+use Rattle.octets.proofs.OctetsLaws.{same-refl, in-first, in-second, octet-window, two-window, four-window, two-back, four-back}
+use Rattle.octets.proofs.OctetsLaws.{length-two, length-four}
+use Rattle.frame.specs.FrameTable.{FrameTable}
+use Rattle.answers.specs.declared.Refusal.the-variants.{NotApplicable}
+use Rattle.answers.specs.declared.Answer.the-variants as answer
 use Rattle.joining.proofs.Heads.{same-fields}
 use Rattle.holding.specs.declared.Holding.{Holding}
-use Rattle.lending.specs.Laid.{flagOctet, isFlag, isSet, numberOctets, frameOctets, holdingOctets, holdingAt, flagsAt, holdingLaid, formOctets, formAt, sessionHead, sessionLaid, headRight, sessionIn}
-use Rattle.lending.proofs.LaidLaws.{form-free, form-interleaved, head-group, holding-there, session-there, session-read}
-use Rattle.lending.proofs.Pieces.{A, B, C, D, F, M, O, G, S, P, Q, L, length-ab, length-abc, length-numbers, length-f, length-m, length-fm, length-holding, length-form, length-og, length-ogs, length-ogsp, length-ogspq, length-ogspql, length-head}
 use Rattle.holding.specs.Group.{Shaped}
-use Rattle.frame.specs.declared.Form.{Form}
-use Rattle.frame.specs.declared.Form.the-variants.{HeaderFree, Interleaved}
+use Rattle.form.specs.declared.Form.{Form}
+use Rattle.form.specs.declared.Form.the-variants.{HeaderFree, Interleaved}
+use Rattle.session.specs.Session.{vacant, neverOpened, fresh, formRight, openedFor, refuse, accept, withGroup, begins, ended}
 use Rattle.session.specs.declared.Session.{Session}
+use Rattle.session.specs.declared.Arrival.{Arrival}
+use Rattle.session.specs.declared.Started.{Started}
+use Rattle.session.specs.declared.Offered.{Offered}
+use Rattle.session.proofs.Ends.{Placed, no, again, put, first, next, Ends, refuses, places, offer-ends}
+use Rattle.lending.specs.Laid.{flagOctet, isSet, isLaid, numberOctets, frameOctets, holdingOctets, holdingAt, holdingLaid}
+use Rattle.lending.specs.Laid.{formOctets, formAt, lastOctets, sessionHead, sessionLaid, sessionAt, isSession, sessionIn}
+use Rattle.lending.proofs.LaidLaws.{long-enough, form-free, form-interleaved, holding-there, session-there, session-read}
+use Rattle.lending.proofs.Pieces.{A, B, C, D, F, N, M, O, G, S, P, Q, length-ab, length-abc, length-abcd, length-numbers, length-f}
+use Rattle.lending.proofs.Pieces.{length-m, length-fn, length-fnm, length-holding, length-holding-laid, length-form, length-og, length-ogs}
+use Rattle.lending.proofs.Pieces.{length-ogsp, length-ogspq, length-last, length-head, length-grouped, length-session-laid}
 use Rattle.claims.specs.Packets.{AreOctets}
-use Rattle.claims.specs.Lent.{HoldingReadsBack, SessionReadsBack}
+use Rattle.claims.specs.Lent.{HoldingReadsBack, NoneRemembered, NothingPouredNothingRemembered, SessionReadsBack}
+use Rattle.claims.proofs.Lent.{are-laid}
 
 -- ---- flags and types
 flags-back : (fs : List Bool) → map isSet (map flagOctet fs) ≡ fs
@@ -38,54 +49,55 @@ types-back (t ∷ ts) h =
 
 -- ---- a holding: its pieces, by their windows
 module _ (h : Holding) (x : Shaped h) (z : AreOctets (h .marks)) where
-  -- a window of the first twelve octets, and of the rest
-  low : (k n : ℕ) → k + n ≤ 12 → take n (drop k (holdingOctets h)) ≡ take n (drop k (numberOctets h))
-  unfolding holdingOctets
-  low k n p = in-first (numberOctets h) (frameOctets h) k n (omega (arith, length-numbers h))
+  -- a window of the first twelve octets, and of those behind the first sixteen
+  low : (k n : ℕ) → k + n ≤ 12 → take n (drop k (holdingOctets h)) ≡ take n (drop k (A h ++ B h ++ C h ++ D h))
+  unfolding holdingOctets numberOctets
+  low k n p =
+      in-first (numberOctets h) (frameOctets h) k n (omega (arith, length-numbers h))
+      ∙ in-first (A h ++ B h ++ C h ++ D h) (replicate 4 0) k n (omega (arith, length-abcd h))
 
-  high : (k n : ℕ) → take n (drop (12 + k) (holdingOctets h)) ≡ take n (drop k (frameOctets h))
+  high : (k n : ℕ) → take n (drop (16 + k) (holdingOctets h)) ≡ take n (drop k (frameOctets h))
   unfolding holdingOctets
-  high k n = in-second (numberOctets h) (frameOctets h) 12 k n (length-numbers h)
+  high k n = in-second (numberOctets h) (frameOctets h) 16 k n (length-numbers h)
 
   source-piece : take 4 (drop 0 (holdingOctets h)) ≡ A h
-  unfolding numberOctets
   source-piece =
       low 0 4 (omega arith) ∙ in-first (A h ++ B h ++ C h) (D h) 0 4 (omega (arith, length-abc h)) ∙ in-first (A h ++ B h) (C h) 0 4 (omega (arith, length-ab h))
       ∙ in-first (A h) (B h) 0 4 (omega (arith, length-four (h .source))) ∙ take-all 4 (A h) (omega (arith, length-four (h .source)))
 
   sequence-piece : take 2 (drop 4 (holdingOctets h)) ≡ B h
-  unfolding numberOctets
   sequence-piece =
       low 4 2 (omega arith) ∙ in-first (A h ++ B h ++ C h) (D h) 4 2 (omega (arith, length-abc h)) ∙ in-first (A h ++ B h) (C h) 4 2 (omega (arith, length-ab h))
       ∙ in-second (A h) (B h) 4 0 2 (length-four (h .source)) ∙ take-all 2 (B h) (omega (arith, length-two (h .sequence)))
 
   timestamp-piece : take 4 (drop 6 (holdingOctets h)) ≡ C h
-  unfolding numberOctets
   timestamp-piece =
       low 6 4 (omega arith) ∙ in-first (A h ++ B h ++ C h) (D h) 6 4 (omega (arith, length-abc h)) ∙ in-second (A h ++ B h) (C h) 6 0 4 (length-ab h)
       ∙ take-all 4 (C h) (omega (arith, length-four (h .timestamp)))
 
   sizes-piece : take 2 (drop 10 (holdingOctets h)) ≡ D h
-  unfolding numberOctets
   sizes-piece = low 10 2 (omega arith) ∙ in-second (A h ++ B h ++ C h) (D h) 10 0 2 (length-abc h)
 
-  flags-piece : take 8 (drop 12 (holdingOctets h)) ≡ F h
+  flags-piece : take 8 (drop 16 (holdingOctets h)) ≡ F h
   unfolding frameOctets
   flags-piece =
-      high 0 8 ∙ in-first (F h ++ M h) (h .room) 0 8 (omega (arith, length-fm h x)) ∙ in-first (F h) (M h) 0 8 (omega (arith, length-f h x)) ∙ take-all 8 (F h) (omega (arith, length-f h x))
+      high 0 8 ∙ in-first (F h ++ N h ++ M h) (h .room) 0 8 (omega (arith, length-fnm h x)) ∙ in-first (F h ++ N h) (M h) 0 8 (omega (arith, length-fn h x))
+      ∙ in-first (F h) (N h) 0 8 (omega (arith, length-f h x)) ∙ take-all 8 (F h) (omega (arith, length-f h x))
 
-  types-piece : take 80 (drop 20 (holdingOctets h)) ≡ M h
+  types-piece : take 80 (drop 32 (holdingOctets h)) ≡ M h
   unfolding frameOctets
-  types-piece = high 8 80 ∙ in-first (F h ++ M h) (h .room) 8 80 (omega (arith, length-fm h x)) ∙ in-second (F h) (M h) 8 0 80 (length-f h x) ∙ take-all 80 (M h) (omega (arith, length-m h x))
+  types-piece =
+      high 16 80 ∙ in-first (F h ++ N h ++ M h) (h .room) 16 80 (omega (arith, length-fnm h x)) ∙ in-second (F h ++ N h) (M h) 16 0 80 (length-fn h x)
+      ∙ take-all 80 (M h) (omega (arith, length-m h x))
 
-  room-piece : take 1760 (drop 100 (holdingOctets h)) ≡ h .room
+  room-piece : take 1760 (drop 112 (holdingOctets h)) ≡ h .room
   unfolding frameOctets
-  room-piece = high 88 1760 ∙ in-second (F h ++ M h) (h .room) 88 0 1760 (length-fm h x) ∙ take-all 1760 (h .room) (omega (arith, x .long-room))
+  room-piece = high 96 1760 ∙ in-second (F h ++ N h ++ M h) (h .room) 96 0 1760 (length-fnm h x) ∙ take-all 1760 (h .room) (omega (arith, x .long-room))
 
   -- octets in which the holding is laid out from index `at` on
-  module _ (o : List ℕ) (at : ℕ) (there : (k n : ℕ) → k + n ≤ 1860 → take n (drop (at + k) o) ≡ take n (drop k (holdingOctets h))) where
-    first : (n : ℕ) → n ≤ 1860 → take n (drop at o) ≡ take n (drop 0 (holdingOctets h))
-    first n p = ap (λ (i : ℕ). take n (drop i o)) (sym (add-zero at)) ∙ there 0 n (omega arith)
+  module _ (o : List ℕ) (at : ℕ) (there : (k n : ℕ) → k + n ≤ 1872 → take n (drop (at + k) o) ≡ take n (drop k (holdingOctets h))) where
+    front : (n : ℕ) → n ≤ 1872 → take n (drop at o) ≡ take n (drop 0 (holdingOctets h))
+    front n p = ap (λ (i : ℕ). take n (drop i o)) (sym (add-zero at)) ∙ there 0 n (omega arith)
 
     size-at : (i j : ℕ) → j ≡ at + 10 + i → i < 2 → getD o j 0 ≡ getD (D h) i 0
     size-at i j e p =
@@ -94,46 +106,25 @@ module _ (h : Holding) (x : Shaped h) (z : AreOctets (h .marks)) where
     holding-back : holdingAt o at ≡ h
     unfolding holdingAt
     holding-back =
-        same-fields (four-window o at ∙ ap (λ (w : List ℕ). fourAt w 0) (first 4 (omega arith) ∙ source-piece) ∙ four-back (h .source))
+        same-fields (four-window o at ∙ ap (λ (w : List ℕ). fourAt w 0) (front 4 (omega arith) ∙ source-piece) ∙ four-back (h .source))
         (two-window o (at + 4) ∙ ap (λ (w : List ℕ). twoAt w 0) (there 4 2 (omega arith) ∙ sequence-piece) ∙ two-back (h .sequence))
         (four-window o (at + 6) ∙ ap (λ (w : List ℕ). fourAt w 0) (there 6 4 (omega arith) ∙ timestamp-piece) ∙ four-back (h .timestamp))
         (size-at 0 (at + 10) (sym (add-zero (at + 10))) (omega arith))
         (size-at 1 (at + 11) (omega arith) (omega arith))
-        (ap (map isSet) (there 12 8 (omega arith) ∙ flags-piece) ∙ flags-back (h .held))
-        (ap (map (shifted 14)) (there 20 80 (omega arith) ∙ types-piece) ∙ types-back (h .marks) z)
-        (there 100 1760 (omega arith) ∙ room-piece)
-
-    flags-right : flagsAt o (at + 12) ≡ true
-    unfolding flagsAt
-    flags-right = all-intro (λ n. isFlag (getD o (at + 12 + n) 0)) 8 (λ (n : ℕ) (p : n < 8). right n p)
-      where
-        small : (b : Bool) → leb (flagOctet b) 1 ≡ true
-        small true = refl
-        small false = refl
-
-        right : (n : ℕ) → n < 8 → leb (getD o (at + 12 + n) 0) 1 ≡ true
-        right n p =
-            let q : n < length (h .held) = omega (arith, x .long-held) in
-            ap (λ (y : ℕ). leb y 1) (octet-window o (at + 12) 8 n p ∙ ap (λ (w : List ℕ). getD w n 0) (there 12 8 (omega arith) ∙ flags-piece) ∙ changed-at flagOctet (h .held) n false 0 q)
-            ∙ small (getD (h .held) n false)
+        (ap (map isSet) (there 16 8 (omega arith) ∙ flags-piece) ∙ flags-back (h .held))
+        (ap (map (shifted 14)) (there 32 80 (omega arith) ∙ types-piece) ∙ types-back (h .marks) z)
+        (there 112 1760 (omega arith) ∙ room-piece)
 
 flag-back : (b : Bool) → isSet (flagOctet b) ≡ b
 flag-back true = refl
 flag-back false = refl
 
-flag-right : (b : Bool) → isFlag (flagOctet b) ≡ true
-flag-right true = refl
-flag-right false = refl
-
 -- ---- a session: its pieces, by their windows
 module _ (s : Session) where
   -- a window of the first octets is one of a shorter beginning
-  to-l : (k n : ℕ) → k + n ≤ 13 → take n (drop k (sessionHead s)) ≡ take n (drop k (O s ++ G s ++ S s ++ P s ++ Q s ++ L s))
+  to-q : (k n : ℕ) → k + n ≤ 13 → take n (drop k (sessionHead s)) ≡ take n (drop k (O s ++ G s ++ S s ++ P s ++ Q s))
   unfolding sessionHead
-  to-l k n p = in-first (O s ++ G s ++ S s ++ P s ++ Q s ++ L s) (replicate 3 0) k n (omega (arith, (length-ogspql s)))
-
-  to-q : (k n : ℕ) → k + n ≤ 11 → take n (drop k (sessionHead s)) ≡ take n (drop k (O s ++ G s ++ S s ++ P s ++ Q s))
-  to-q k n p = to-l k n (omega arith) ∙ in-first (O s ++ G s ++ S s ++ P s ++ Q s) (L s) k n (omega (arith, (length-ogspq s)))
+  to-q k n p = in-first (O s ++ G s ++ S s ++ P s ++ Q s) (replicate 19 0) k n (omega (arith, (length-ogspq s)))
 
   to-p : (k n : ℕ) → k + n ≤ 9 → take n (drop k (sessionHead s)) ≡ take n (drop k (O s ++ G s ++ S s ++ P s))
   to-p k n p = to-q k n (omega arith) ∙ in-first (O s ++ G s ++ S s ++ P s) (Q s) k n (omega (arith, (length-ogsp s)))
@@ -156,38 +147,35 @@ module _ (s : Session) where
   poured-piece : take 1 (drop 8 (sessionHead s)) ≡ P s
   poured-piece = to-p 8 1 (omega arith) ∙ in-second (O s ++ G s ++ S s) (P s) 8 0 1 (length-ogs s)
 
-  last-piece : take 2 (drop 9 (sessionHead s)) ≡ Q s
-  last-piece = to-q 9 2 (omega arith) ∙ in-second (O s ++ G s ++ S s ++ P s) (Q s) 9 0 2 (length-ogsp s) ∙ take-all 2 (Q s) (omega (arith, length-two (s .«last_sequence»)))
+  last-piece : take 4 (drop 9 (sessionHead s)) ≡ Q s
+  last-piece = to-q 9 4 (omega arith) ∙ in-second (O s ++ G s ++ S s ++ P s) (Q s) 9 0 4 (length-ogsp s) ∙ take-all 4 (Q s) (omega (arith, length-last s))
 
-  memory-piece : take 2 (drop 11 (sessionHead s)) ≡ L s
-  memory-piece = to-l 11 2 (omega arith) ∙ in-second (O s ++ G s ++ S s ++ P s ++ Q s) (L s) 11 0 2 (length-ogspq s)
-
-  module _ (x : Shaped (s .group)) (z : AreOctets (s .group .marks)) (rest : List ℕ) where
+  -- octets that begin as the session is laid out
+  module _ (rest : List ℕ) where
     abbrev all : List ℕ
     all = sessionLaid s ++ rest
 
-    head-there : (k n : ℕ) → k + n ≤ 16 → take n (drop k all) ≡ take n (drop k (sessionHead s))
+    head-there : (k n : ℕ) → k + n ≤ 32 → take n (drop k all) ≡ take n (drop k (sessionHead s))
     unfolding sessionLaid
     head-there k n p =
         let H = holdingOctets (s .group) in
         let l = length-head s in
         let a = length-append (sessionHead s) H in
-        let b = length-append (sessionHead s ++ H) (replicate 172 0) in
-        in-first (sessionHead s ++ H ++ replicate 172 0) rest k n (omega arith) ∙ in-first (sessionHead s ++ H) (replicate 172 0) k n (omega arith)
+        let b = length-append (sessionHead s ++ H) (replicate 400 0) in
+        in-first (sessionHead s ++ H ++ replicate 400 0) rest k n (omega arith) ∙ in-first (sessionHead s ++ H) (replicate 400 0) k n (omega arith)
         ∙ in-first (sessionHead s) H k n (omega arith)
 
-    group-there : (k n : ℕ) → k + n ≤ 1860 → take n (drop (16 + k) all) ≡ take n (drop k (holdingOctets (s .group)))
+    group-there : Shaped (s .group) → (k n : ℕ) → k + n ≤ 1872 → take n (drop (32 + k) all) ≡ take n (drop k (holdingOctets (s .group)))
     unfolding sessionLaid
-    group-there k n p =
+    group-there x k n p =
         let H = holdingOctets (s .group) in
         let l = length-head s in
-        let m = length-holding (s .group) x in
-        let a = length-append (sessionHead s) H in
-        let b = length-append (sessionHead s ++ H) (replicate 172 0) in
-        in-first (sessionHead s ++ H ++ replicate 172 0) rest (16 + k) n (omega arith) ∙ in-first (sessionHead s ++ H) (replicate 172 0) (16 + k) n (omega arith)
-        ∙ in-second (sessionHead s) H 16 k n l
+        let m = length-grouped s x in
+        let b = length-append (sessionHead s ++ H) (replicate 400 0) in
+        in-first (sessionHead s ++ H ++ replicate 400 0) rest (32 + k) n (omega arith) ∙ in-first (sessionHead s ++ H) (replicate 400 0) (32 + k) n (omega arith)
+        ∙ in-second (sessionHead s) H 32 k n l
 
-    octet : (k n i : ℕ) (w : List ℕ) → k + n ≤ 16 → i < n → take n (drop k (sessionHead s)) ≡ w → getD all (k + i) 0 ≡ getD w i 0
+    octet : (k n i : ℕ) (w : List ℕ) → k + n ≤ 32 → i < n → take n (drop k (sessionHead s)) ≡ w → getD all (k + i) 0 ≡ getD w i 0
     octet k n i w p q e = octet-window all k n i q ∙ ap (λ (y : List ℕ). getD y i 0) (head-there k n p ∙ e)
 
     is-open : getD all 0 0 ≡ flagOctet (s .«open»)
@@ -207,46 +195,141 @@ module _ (s : Session) where
         go HeaderFree a b c = sym (form-free all 1 (λ (e : getD all 1 0 ≡ 1). absurd (omega arith)))
         go (Interleaved m) a b c = sym (form-interleaved all 1 a) ∙ ap₂ (λ (l n : ℕ). Interleaved (record { «max_l» = l; «max_b» = n })) b c
 
-    form-flag : getD all 1 0 ≤ 1
-    unfolding formOctets
-    form-flag = go (s .form) (form-octet 0 (omega arith))
+    last-octet : (i : ℕ) → i < 4 → getD all (9 + i) 0 ≡ getD (Q s) i 0
+    last-octet i p = octet 9 4 i (Q s) (omega arith) p last-piece
+
+    -- the numbers of the last poured group; where none was, they read as zero
+    abbrev Last : ℕ → ℕ → ℕ → Type 0
+    Last q l b = (twoAt all 9 ≡ q) × ((getD all 11 0 ≡ l) × (getD all 12 0 ≡ b))
+
+    last-zero : s .poured ≡ false → Last 0 0 0
+    unfolding lastOctets twoAt
+    last-zero e =
+        let z : (i : ℕ) → i < 4 → getD all (9 + i) 0 ≡ getD (replicate 4 0) i 0 = λ i p. last-octet i p ∙ simp e in
+        let a = z 0 (omega arith) in
+        let b = z 1 (omega arith) in
+        (omega arith, (z 2 (omega arith), z 3 (omega arith)))
+
+    last-back : s .poured ≡ true → Last (s .«last_sequence») (s .«last_l») (s .«last_b»)
+    unfolding lastOctets twoAt twoOctets
+    last-back e =
+        let w = twoOctets (s .«last_sequence») ++ (s .«last_l» ∷ s .«last_b» ∷ []) in
+        let z : (i : ℕ) → i < 4 → getD all (9 + i) 0 ≡ getD w i 0 = λ i p. last-octet i p ∙ simp e in
+        let a = z 0 (omega arith) in
+        let b = z 1 (omega arith) in
+        (omega arith, (z 2 (omega arith), z 3 (omega arith)))
+
+    last-same : NoneRemembered s → Last (s .«last_sequence») (s .«last_l») (s .«last_b»)
+    unfolding NoneRemembered
+    last-same none = go (s .poured) refl
       where
-        go : (f : Form) → getD all 1 0 ≡ getD (formOctets f) 0 0 → getD all 1 0 ≤ 1
-        go HeaderFree a = omega arith
-        go (Interleaved m) a = omega arith
+        go : (b : Bool) → s .poured ≡ b → Last (s .«last_sequence») (s .«last_l») (s .«last_b»)
+        go true e = last-back e
+        go false e =
+            let n = none e in
+            let z = last-zero e in
+            (z .0 ∙ sym (n .0), (z .1 .0 ∙ sym (n .1 .0), z .1 .1 ∙ sym (n .1 .1)))
 
-    is-session : headRight all ≡ true
-    is-session =
-        let a : getD all 0 0 ≤ 1 = leb-true _ _ (ap isFlag is-open ∙ flag-right (s .«open»)) in
-        let b : getD all 8 0 ≤ 1 = leb-true _ _ (ap isFlag is-poured ∙ flag-right (s .poured)) in
-        sym (head-group all a form-flag b) ∙ flags-right (s .group) x z all 16 group-there
-
-    session-back : sessionIn all ≡ s
-    session-back =
-        sym
-        (session-there all s is-session
-        (session-read all s (sym (ap isSet is-open ∙ flag-back (s .«open»)))
+    session-back : NoneRemembered s → Shaped (s .group) → AreOctets (s .group .marks) → s ≡ sessionAt all
+    session-back none x z =
+        let l = last-same none in
+        session-read all s (sym (ap isSet is-open ∙ flag-back (s .«open»)))
         (sym (four-window all 4 ∙ ap (λ (w : List ℕ). fourAt w 0) (head-there 4 4 (omega arith) ∙ from-piece) ∙ four-back (s .source)))
         (sym form-back)
-        (sym (holding-back (s .group) x z all 16 group-there))
+        (sym (holding-back (s .group) x z all 32 (group-there x)))
         (sym (ap isSet is-poured ∙ flag-back (s .poured)))
-        (sym (two-window all 9 ∙ ap (λ (w : List ℕ). twoAt w 0) (head-there 9 2 (omega arith) ∙ last-piece) ∙ two-back (s .«last_sequence»)))
-        (sym (octet 11 2 0 (L s) (omega arith) (omega arith) memory-piece))
-        (sym (octet 11 2 1 (L s) (omega arith) (omega arith) memory-piece))))
+        (sym (l .0))
+        (sym (l .1 .0))
+        (sym (l .1 .1))
 
 -- ---- both, whatever the buffer held before
-pub holding-reads-back : HoldingReadsBack
-unfolding HoldingReadsBack holdingLaid over
-holding-reads-back h x z d =
-    let w = holdingOctets h ++ replicate 188 0 in
-    let rest = drop (0 + length w) d in
-    let o = w ++ rest in
-    let a = length-append (holdingOctets h) (replicate 188 0) in
+there-laid : (w rest : List ℕ) → length w ≡ 2304 → isLaid (w ++ rest) w ≡ true
+unfolding isLaid
+there-laid w rest l =
+    let a = length-append w rest in
+    let z : take 2304 (w ++ rest) ≡ w = in-first w rest 0 2304 (omega arith) ∙ take-all 2304 w (omega arith) in
+    let y : sameOctets w (take 2304 (w ++ rest)) ≡ true = ap (sameOctets w) z ∙ same-refl w in
+    simp (long-enough (w ++ rest) (omega arith), y)
+
+laid-at : (h : Holding) → Shaped h → AreOctets (h .marks) → (rest : List ℕ) → h ≡ holdingAt (holdingLaid h ++ rest) 0
+unfolding holdingLaid
+laid-at h x z rest =
+    let w = holdingOctets h ++ replicate 432 0 in
+    let a = length-append (holdingOctets h) (replicate 432 0) in
     let l = length-holding h x in
-    let there : (k n : ℕ) → k + n ≤ 1860 → take n (drop (0 + k) o) ≡ take n (drop k (holdingOctets h)) =
-    λ k n p. ap (λ (i : ℕ). take n (drop i o)) (zero-add k) ∙ in-first w rest k n (omega arith) ∙ in-first (holdingOctets h) (replicate 188 0) k n (omega arith) in
-    sym (holding-there o h (flags-right h x z o 0 there) (sym (holding-back h x z o 0 there)))
+    let there : (k n : ℕ) → k + n ≤ 1872 → take n (drop (0 + k) (w ++ rest)) ≡ take n (drop k (holdingOctets h)) =
+    λ k n p. ap (λ (i : ℕ). take n (drop i (w ++ rest))) (zero-add k) ∙ in-first w rest k n (omega arith) ∙ in-first (holdingOctets h) (replicate 432 0) k n (omega arith) in
+    sym (holding-back h x z (w ++ rest) 0 there)
+
+pub holding-reads-back : HoldingReadsBack
+unfolding HoldingReadsBack over
+holding-reads-back h x z d =
+    let w = holdingLaid h in
+    let rest = drop (0 + length w) d in
+    sym (holding-there (w ++ rest) h (there-laid w rest (length-holding-laid h x)) (laid-at h x z rest))
 
 pub session-reads-back : SessionReadsBack
 unfolding SessionReadsBack over
-session-reads-back s x z d = session-back s x z (drop (0 + length (sessionLaid s)) d)
+session-reads-back s none x z d =
+    let w = sessionLaid s in
+    let rest = drop (0 + length w) d in
+    sym (session-there (w ++ rest) s (there-laid w rest (length-session-laid s x)) (session-back s rest none x z))
+
+-- ---- a session in which no group was poured has the numbers of none
+zero-none : (s : Session) → s .«last_sequence» ≡ 0 → s .«last_l» ≡ 0 → s .«last_b» ≡ 0 → NoneRemembered s
+unfolding NoneRemembered
+zero-none s a b c = λ e. (a, (b, c))
+
+same-none : (s : Session) (h : Holding) → NoneRemembered s → NoneRemembered (withGroup s h)
+unfolding NoneRemembered withGroup
+same-none s h n = n
+
+placed-none : (s : Session) (a : Arrival) (o : Offered) → NoneRemembered s → Placed s a o → NoneRemembered (o .session)
+unfolding refuse accept begins
+placed-none s a o n (no r e) = rw e n
+placed-none s a o n (again q e) = rw e n
+placed-none s a o n (put q f g e) = rw e (same-none s _ n)
+placed-none s a o n (first q p e) = rw e (same-none s _ n)
+placed-none s a o n (next q p lost f h e) = rw e (same-none s _ n)
+
+ends-none : (v : FrameTable) (s : Session) (source q t : ℕ) (p : List ℕ) (o : Offered) → NoneRemembered s → Ends v s source q t p o → NoneRemembered (o .session)
+unfolding refuse
+ends-none v s source q t p o n (refuses r e) = rw e n
+ends-none v s source q t p o n (places x y l m d fs z w) = placed-none s _ o n w
+
+opened-none : (source : ℕ) (form : Form) → NoneRemembered (openedFor neverOpened source form .session)
+unfolding openedFor neverOpened fresh vacant
+opened-none source form = go (formRight form)
+  where
+    go : (b : Bool) → NoneRemembered
+        (cond {A = Started} b (record { answer = answer.Done; session = fresh source form }) (record { answer = answer.Refused NotApplicable; session = neverOpened }) .session)
+    go true = zero-none _ refl refl refl
+    go false = zero-none _ refl refl refl
+
+laid-none : (o : List ℕ) → sessionLaid (sessionAt o) ≡ take 2304 o → NoneRemembered (sessionAt o)
+unfolding NoneRemembered sessionAt
+laid-none o e q =
+    let rest = drop 2304 o in
+    let y : o ≡ sessionLaid (sessionAt o) ++ rest = sym (ap (λ (w : List ℕ). w ++ rest) e ∙ take-append-drop 2304 o) in
+    let z = last-zero (sessionAt o) rest q in
+    (ap (λ (w : List ℕ). twoAt w 9) y ∙ z .0, (ap (λ (w : List ℕ). getD w 11 0) y ∙ z .1 .0, ap (λ (w : List ℕ). getD w 12 0) y ∙ z .1 .1))
+
+lent-none : (o : List ℕ) → NoneRemembered (sessionIn o)
+unfolding sessionIn isSession neverOpened vacant
+lent-none o = go (isLaid o (sessionLaid (sessionAt o))) refl
+  where
+    go : (b : Bool) → isLaid o (sessionLaid (sessionAt o)) ≡ b → NoneRemembered (cond b (sessionAt o) neverOpened)
+    go false e = zero-none _ refl refl refl
+    go true e = laid-none o (are-laid o (sessionLaid (sessionAt o)) e)
+
+pours-none : (s : Session) → NoneRemembered (ended s)
+unfolding NoneRemembered ended
+pours-none s e = apart (cc)
+
+pub nothing-poured-nothing-remembered : NothingPouredNothingRemembered
+nothing-poured-nothing-remembered = record {
+  opened = opened-none;
+  lent = lent-none;
+  offers = λ v s source q t p n. ends-none v s source q t p _ n (offer-ends v s source q t p);
+  pours = pours-none;
+}

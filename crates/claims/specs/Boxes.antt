@@ -3,12 +3,12 @@ use Prim.Native.Nat.{ℕ, _<_}
 use mathlib.Core.Path.{_≡_}
 use mathlib.Core.List.{List, [], _∷_}
 use mathlib.Core.Bool.{Bool, false, _||_}
-use Rattle.frame.specs.Table.{Vocoder}
-use Rattle.frame.specs.declared.Form.{Form}
+use Rattle.frame.specs.FrameTable.{FrameTable}
+use Rattle.form.specs.declared.Form.{Form}
 use Rattle.holding.specs.declared.Holding.{Holding}
 use Rattle.knowledge.specs.Knowledge.{Among}
 use Rattle.session.specs.Session.{copied}
-use Rattle.holding.specs.declared.Answer.the-variants.{Done}
+use Rattle.answers.specs.declared.Answer.the-variants.{Done}
 use Rattle.session.specs.declared.Session.{Session}
 use Rattle.claims.specs.Joinings.{HasRoom, Way, boxes, done, outcome}
 use Rattle.claims.specs.Demand3.{Sent, among, Part, HoldsExactly}
@@ -16,7 +16,7 @@ use Rattle.claims.specs.Demand3.{Sent, among, Part, HoldsExactly}
 -- such a session's holding can be copied out
 unfoldable pub CopiedOut : Type 0
 CopiedOut =
-    (v : Vocoder) (form : Form) (s : Session) (g : Sent v form) (ns : List ℕ) → HoldsExactly s g ns →
+    (v : FrameTable) (form : Form) (s : Session) (g : Sent v form) (ns : List ℕ) → HoldsExactly s g ns →
     copied v s ≡ record { answer = Done; holding = s .group }
 
 -- some box was offered packet n
@@ -24,10 +24,10 @@ abbrev pub offeredTo : ℕ → (Holding → List ℕ) → List Holding → Bool
 offeredTo n parts [] = false
 offeredTo n parts (h ∷ hs) = among n (parts h) || offeredTo n parts hs
 
--- boxes that each were offered a part of the group, joined in any order and grouping, give what one box would hold that was offered all of it
+-- boxes that each were offered a part of the group, joined in any order and grouping, hold what one box would that was offered all of it
 unfoldable pub BoxesJoin : Type 0
 BoxesJoin =
-    (v : Vocoder) → HasRoom v → (form : Form) (g : Sent v form) (w : Way) (parts : Holding → List ℕ) →
+    (v : FrameTable) → HasRoom v → (form : Form) (g : Sent v form) (w : Way) (parts : Holding → List ℕ) →
     ((h : Holding) → Among h (boxes w) → Part h g (parts h)) →
     (one : Session) (all : List ℕ) → HoldsExactly one g all → ((n : ℕ) → n < 8 → among n all ≡ offeredTo n parts (boxes w)) →
     outcome v w ≡ done (one .group)

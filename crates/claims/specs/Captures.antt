@@ -1,25 +1,25 @@
--- Document 01, "Capture program": what holds of every capture. Over any frame table.
+-- Document 01, "Capture program": what holds of every capture. Of recordings of any kind.
 use Prim.Native.Nat.{ℕ, _+_, _*_, _%_, _≤_, _<_}
 use mathlib.Core.Path.{_≡_}
 use mathlib.Core.List.{List, [], _∷_, _++_, map}
 use mathlib.Core.Bool.{true, false, cond, _&&_}
 use lib.Dec.{T, eqb, leb}
 use lib.ListN.{length}
-use Rattle.frame.specs.Table.{Vocoder, Frame, evrc, erasure, single}
+use Rattle.frame.specs.FrameTable.{FrameTable, Frame, erasure, single}
+use Rattle.entries.specs.Kind.{Kind, keepsTypes, listsErasure}
 use Rattle.frame.specs.Places.{frameAt}
-use Rattle.frame.specs.declared.Form.{Form}
+use Rattle.form.specs.declared.Form.{Form}
 use Rattle.packet.specs.Packet.{placeOf}
-use Rattle.recording.specs.Entries.{entriesOf}
-use Rattle.recording.specs.Entries as entries
-use Rattle.recording.specs.Recording.{evrcOpening, recorded}
-use Rattle.capture.specs.Table.{Heard, countOf, startAt, packetsIn, good}
-use Rattle.capture.specs.Run.{captureForm, recordedOf, recordingOf, largest}
-use Rattle.claims.specs.Packets.{narrow}
+use Rattle.entries.specs.Entries.{entriesOf}
+use Rattle.entries.specs.Entries as entries
+use Rattle.recording.specs.Recording.{recordingRead}
+use Rattle.capture.specs.Capture.{Heard, countOf, startAt, packetsIn, good}
+use Rattle.capture.specs.Run.{captureKind, captureForm, entriesRecorded, captureRecording, largest}
 use Rattle.claims.specs.Joinings.{HasRoom}
 use Rattle.claims.specs.Demand3.{Sent, Within, among}
 
 -- packet n of a group, as a box hands it over
-abbrev pub heardOf : {v : Vocoder} {form : Form} → Sent v form → ℕ → Heard
+abbrev pub heardOf : {v : FrameTable} {form : Form} → Sent v form → ℕ → Heard
 heardOf g n =
     record {
       source = g .source;
@@ -29,18 +29,22 @@ heardOf g n =
     }
 
 -- a recording of a group of which these packets were heard: at each time place the original frame, or an erasure
-pub record RecordsGroup {v : Vocoder} {form : Form} (recording opening : List ℕ) (g : Sent v form) (ns : List ℕ) : Type 0 where
+pub record RecordsGroup {v : FrameTable} {form : Form} (recording opening : List ℕ) (g : Sent v form) (ns : List ℕ) : Type 0 where
   pub frames : List Frame
   pub behind-opening : recording ≡ opening ++ entriesOf frames
   pub count : length frames ≡ (g .l + 1) * g .b
-  pub original : (n k : ℕ) → n ≤ g .l → k < g .b → among n ns ≡ true → frameAt frames (placeOf (g .l) n k) ≡ frameAt (g .frames) (placeOf (g .l) n k)
-  pub erased : (n k : ℕ) → n ≤ g .l → k < g .b → among n ns ≡ false → frameAt frames (placeOf (g .l) n k) ≡ record { type = erasure; body = [] }
+  pub original :
+      (n k : ℕ) → n ≤ g .l → k < g .b → among n ns ≡ true →
+      frameAt frames (placeOf (g .l) n k) ≡ frameAt (g .frames) (placeOf (g .l) n k)
+  pub erased :
+      (n k : ℕ) → n ≤ g .l → k < g .b → among n ns ≡ false →
+      frameAt frames (placeOf (g .l) n k) ≡ record { type = erasure; body = [] }
 
 -- demand 3 through a capture: a group that was sent, any part of it, in any order, repeats allowed
 unfoldable pub GroupIsRecorded : Type 0
 GroupIsRecorded =
-    (v : Vocoder) → HasRoom v → (g : Sent v captureForm) (n : ℕ) (ns : List ℕ) → Within (g .l) (n ∷ ns) →
-    (opening c : List ℕ) → packetsIn c ≡ map (heardOf g) (n ∷ ns) → RecordsGroup (recordingOf v opening c) opening g (n ∷ ns)
+    (kind : Kind) → HasRoom (kind .table) → (g : Sent (kind .table) captureForm) (n : ℕ) (ns : List ℕ) → Within (g .l) (n ∷ ns) →
+    (c : List ℕ) → packetsIn c ≡ map (heardOf g) (n ∷ ns) → RecordsGroup (captureRecording kind c) (kind .opening) g (n ∷ ns)
 
 -- the packets that have this source
 abbrev pub fromSource : ℕ → List Heard → List Heard
@@ -49,29 +53,33 @@ fromSource source (h ∷ hs) = cond (eqb (h .source) source) (h ∷ fromSource s
 
 -- "The session takes the first packet's source": no packet of another source leaves a trace
 unfoldable pub FirstSourceAlone : Type 0
-FirstSourceAlone = (v : Vocoder) (h : Heard) (hs : List Heard) → recordedOf v (h ∷ hs) ≡ recordedOf v (h ∷ fromSource (h .source) hs)
+FirstSourceAlone =
+    (kind : Kind) (h : Heard) (hs : List Heard) → entriesRecorded kind (h ∷ hs) ≡ entriesRecorded kind (h ∷ fromSource (h .source) hs)
 
 -- so where all the others are of other sources, the first packet is recorded as if it had come alone
 unfoldable pub OthersAreNotHeard : Type 0
-OthersAreNotHeard = (v : Vocoder) (h : Heard) (hs : List Heard) → fromSource (h .source) hs ≡ [] → recordedOf v (h ∷ hs) ≡ recordedOf v (h ∷ [])
+OthersAreNotHeard =
+    (kind : Kind) (h : Heard) (hs : List Heard) → fromSource (h .source) hs ≡ [] →
+    entriesRecorded kind (h ∷ hs) ≡ entriesRecorded kind (h ∷ [])
 
 -- a recording: it is read as frames, and refused by nothing
-pub record IsRecording (v : Vocoder) (opening w : List ℕ) : Type 0 where
+pub record IsRecording (kind : Kind) (w : List ℕ) : Type 0 where
   pub frames : List Frame
-  pub read : recorded v opening w ≡ entries.frames frames
+  pub read : recordingRead kind w ≡ entries.frames frames
 
--- "Otherwise it writes a recording", whatever the packets hold; a table that passes these tests, as EVRC does (`EvrcPasses`)
+-- "Otherwise it writes a recording", whatever the packets hold; a kind that passes these tests, as every vocoder's does (`KindsPass`)
 unfoldable pub GivesARecording : Type 0
 GivesARecording =
-    (v : Vocoder) → HasRoom v → T (single v v) → T (narrow v) → (opening c : List ℕ) → IsRecording v opening (recordingOf v opening c)
+    (kind : Kind) → HasRoom (kind .table) → T (single (kind .table) (kind .table)) → T (keepsTypes kind) → T (listsErasure kind) →
+    (c : List ℕ) → IsRecording kind (captureRecording kind c)
 
 -- "Count 0 gives the seven opening octets."
 unfoldable pub NoPacketGivesOpening : Type 0
-NoPacketGivesOpening = (v : Vocoder) (opening c : List ℕ) → countOf c ≡ 0 → recordingOf v opening c ≡ opening
+NoPacketGivesOpening = (kind : Kind) (c : List ℕ) → countOf c ≡ 0 → captureRecording kind c ≡ kind .opening
 
 -- no recording of a capture is larger than the room that the program has for it
 unfoldable pub NothingIsLarger : Type 0
-NothingIsLarger = (c : List ℕ) → good c ≡ true → length (recordingOf evrc evrcOpening c) ≤ largest
+NothingIsLarger = (c : List ℕ) → good c ≡ true → length (captureRecording captureKind c) ≤ largest
 
 -- octets are a capture, and no fault is told of them, exactly if they are "at most 65,536", name "at most 256" packets, and the last
 -- payload ends where they end, "nothing after" (octets that are not there read as 0)

@@ -5,21 +5,23 @@ use Prim.Native.Nat.{ℕ, _+_, _*_, _%_, _≤_, _<_}
 use mathlib.Core.Path.{_≡_}
 use mathlib.Core.List.{List, [], _∷_}
 use mathlib.Core.Bool.{Bool, true, false, cond, _||_}
-use lib.Dec.{eqb, leb}
+use lib.Dec.{eqb}
 use lib.ListN.{length}
-use Rattle.frame.specs.Table.{Vocoder, Frame, AllListed, erasure}
+use Rattle.frame.specs.FrameTable.{FrameTable, Frame, AllListed, erasure}
 use Rattle.frame.specs.Places.{frameAt}
-use Rattle.frame.specs.declared.Form.{Form}
+use Rattle.form.specs.declared.Form.{Form}
 use Rattle.payload.specs.Payload.{packet, readAs}
 use Rattle.packet.specs.Packet.{placeOf, packetFrames}
-use Rattle.frame.specs.Outputs.{octets}
-use Rattle.holding.specs.Bases.{minus}
+use Rattle.answers.specs.Outputs.{octets}
+use Rattle.numbers.specs.Place.{decided}
+use Rattle.numbers.specs.declared.GroupNumbers.{GroupNumbers}
+use Rattle.numbers.specs.declared.Verdict.the-variants.{Begins}
 use Rattle.holding.specs.Group.{isNothing}
 use Rattle.holding.specs.declared.Holding.{Holding}
 use Rattle.pouring.specs.Pouring.{inTime}
-use Rattle.knowledge.specs.Knowledge.{Box, Known, heard, lost, knownOf}
-use Rattle.session.specs.Session.{isOpen, offered, pourMade}
-use Rattle.recording.specs.Entries.{entriesOf}
+use Rattle.knowledge.specs.Knowledge.{Box, Known, unheard, knownOf}
+use Rattle.session.specs.Session.{isOpen, groupBefore, offered, pourMade}
+use Rattle.entries.specs.Entries.{entriesOf}
 use Rattle.session.specs.declared.Session.{Session}
 use Rattle.session.specs.declared.Offered.{Offered}
 use Rattle.session.specs.declared.Taken.the-variants.{Accepted}
@@ -27,7 +29,7 @@ use Rattle.claims.specs.Joinings.{HasRoom}
 use Rattle.claims.specs.Sessions.{lostBefore, bodyOctets}
 
 -- a group as it was written: its numbers, its frames in time order, and the payload of each packet, which is read as that packet's frames
-pub record Sent (v : Vocoder) (form : Form) : Type 0 where
+pub record Sent (v : FrameTable) (form : Form) : Type 0 where
   pub source : ℕ
   pub sequence : ℕ
   pub timestamp : ℕ
@@ -45,28 +47,33 @@ pub record Sent (v : Vocoder) (form : Form) : Type 0 where
   pub listed : AllListed v frames
   pub read : (n : ℕ) → n ≤ l → readAs v form (payload n) ≡ packet l n (d n) (packetFrames l n b frames)
 
+-- the numbers that its packets share
+abbrev pub sentNumbers : {v : FrameTable} {form : Form} → Sent v form → GroupNumbers
+sentNumbers g = record { sequence = g .sequence; timestamp = g .timestamp; l = g .l; b = g .b }
+
 -- "numbered and stamped": packet N has the base numbers and N, wrap-around included
-abbrev pub offerOne : {v : Vocoder} {form : Form} → Session → Sent v form → ℕ → Offered
+abbrev pub offerOne : {v : FrameTable} {form : Form} → Session → Sent v form → ℕ → Offered
 offerOne {v} s g n =
     offered v s (g .source) ((g .sequence + n) % 65536) ((g .timestamp + 160 * n) % 4294967296) (g .payload n)
 
 -- its packets of these numbers, one after the other
-unfoldable pub offerAll : {v : Vocoder} {form : Form} → Session → Sent v form → List ℕ → Session
+unfoldable pub offerAll : {v : FrameTable} {form : Form} → Session → Sent v form → List ℕ → Session
 offerAll s g [] = s
 offerAll s g (n ∷ ns) = offerAll (offerOne s g n .session) g ns
 
 -- every offer is accepted; the first reports these lost frames, the others none
-unfoldable pub AllAccepted : {v : Vocoder} {form : Form} → Session → Sent v form → ℕ → List ℕ → Type 0
+unfoldable pub AllAccepted : {v : FrameTable} {form : Form} → Session → Sent v form → ℕ → List ℕ → Type 0
 AllAccepted s g before [] = Unit {0}
 AllAccepted s g before (n ∷ ns) = (offerOne s g n .answer ≡ Accepted before) × AllAccepted (offerOne s g n .session) g 0 ns
 
--- "A session is ready for a group if it is open for its source in the form the group was written in, holds none, and these rules would begin it."
-pub record Ready {v : Vocoder} {form : Form} (s : Session) (g : Sent v form) : Type 0 where
+-- "ready for a group if it is open for its source in the form the group was written in, holds none, and these rules would begin it"
+pub record Ready {v : FrameTable} {form : Form} (s : Session) (g : Sent v form) : Type 0 where
   pub opened : isOpen v s ≡ true
   pub for-source : s .source ≡ g .source
   pub in-form : s .form ≡ form
   pub vacant : isNothing (s .group) ≡ true
-  pub would-begin : cond (s .poured) (leb (minus 16 (g .sequence) (s .«last_sequence» + (s .«last_l» + 1))) 100) true ≡ true
+  pub reported : ℕ
+  pub would-begin : decided (groupBefore s) (sentNumbers g) ≡ Begins reported
 
 -- numbers of packets of the group
 abbrev pub Within : ℕ → List ℕ → Type 0
@@ -78,12 +85,16 @@ abbrev pub among : ℕ → List ℕ → Bool
 among n [] = false
 among n (m ∷ ms) = eqb n m || among n ms
 
+-- what is known of packet n as it was sent
+abbrev pub sentPacket : {v : FrameTable} {form : Form} → Sent v form → ℕ → Known
+sentPacket g n = record { held = true; frames = packetFrames (g .l) n (g .b) (g .frames) }
+
 -- what is known of packet n where these were offered
-abbrev pub knowledge : {v : Vocoder} {form : Form} → Sent v form → List ℕ → ℕ → Known
-knowledge g ns n = cond (among n ns) (heard (packetFrames (g .l) n (g .b) (g .frames))) lost
+abbrev pub knowledge : {v : FrameTable} {form : Form} → Sent v form → List ℕ → ℕ → Known
+knowledge g ns n = cond (among n ns) (sentPacket g n) unheard
 
 -- a holding with the group's numbers
-pub record OfGroup {v : Vocoder} {form : Form} (h : Holding) (g : Sent v form) : Type 0 where
+pub record OfGroup {v : FrameTable} {form : Form} (h : Holding) (g : Sent v form) : Type 0 where
   pub of-source : h .source ≡ g .source
   pub base : h .sequence ≡ g .sequence
   pub time : h .timestamp ≡ g .timestamp
@@ -91,34 +102,41 @@ pub record OfGroup {v : Vocoder} {form : Form} (h : Holding) (g : Sent v form) :
   pub same-bundle : h .b ≡ g .b
 
 -- a holding of the group that names exactly these packets
-pub record Part {v : Vocoder} {form : Form} (h : Holding) (g : Sent v form) (ns : List ℕ) : Type 0 where
+pub record Part {v : FrameTable} {form : Form} (h : Holding) (g : Sent v form) (ns : List ℕ) : Type 0 where
   pub box : Box v h
   pub of-group : OfGroup h g
   pub knows : (n : ℕ) → n < 8 → knownOf v h n ≡ knowledge g ns n
 
 -- the session is open as it was, and its holding is the one that names exactly the packets offered
-pub record HoldsExactly {v : Vocoder} {form : Form} (s : Session) (g : Sent v form) (ns : List ℕ) : Type 0 where
+pub record HoldsExactly {v : FrameTable} {form : Form} (s : Session) (g : Sent v form) (ns : List ℕ) : Type 0 where
   pub still-open : isOpen v s ≡ true
   pub for-source : s .source ≡ g .source
   pub in-form : s .form ≡ form
   pub part : Part (s .group) g ns
 
 -- each time place has the original frame if its packet was offered, and an erasure if not
-pub record PouredPlaces {v : Vocoder} {form : Form} (s : Session) (g : Sent v form) (ns : List ℕ) : Type 0 where
+pub record PouredPlaces {v : FrameTable} {form : Form} (s : Session) (g : Sent v form) (ns : List ℕ) : Type 0 where
   pub count : length (inTime v (s .group)) ≡ (g .l + 1) * g .b
-  pub original : (n k : ℕ) → n ≤ g .l → k < g .b → among n ns ≡ true → frameAt (inTime v (s .group)) (placeOf (g .l) n k) ≡ frameAt (g .frames) (placeOf (g .l) n k)
-  pub erased : (n k : ℕ) → n ≤ g .l → k < g .b → among n ns ≡ false → frameAt (inTime v (s .group)) (placeOf (g .l) n k) ≡ record { type = erasure; body = [] }
+  pub original :
+      (n k : ℕ) → n ≤ g .l → k < g .b → among n ns ≡ true →
+      frameAt (inTime v (s .group)) (placeOf (g .l) n k) ≡ frameAt (g .frames) (placeOf (g .l) n k)
+  pub erased :
+      (n k : ℕ) → n ≤ g .l → k < g .b → among n ns ≡ false →
+      frameAt (inTime v (s .group)) (placeOf (g .l) n k) ≡ record { type = erasure; body = [] }
 
 -- the third demand: what is offered is accepted, held, and poured, and both counts are those of the formulas
-pub record Delivered {v : Vocoder} {form : Form} (s : Session) (g : Sent v form) (n : ℕ) (ns : List ℕ) : Type 0 where
-  pub accepted : AllAccepted s g (lostBefore s (g .sequence)) (n ∷ ns)
+pub record Delivered {v : FrameTable} {form : Form} (s : Session) (g : Sent v form) (n : ℕ) (ns : List ℕ) : Type 0 where
+  pub accepted : AllAccepted s g (lostBefore s (sentNumbers g)) (n ∷ ns)
   pub exactly : HoldsExactly (offerAll s g (n ∷ ns)) g (n ∷ ns)
   pub places : PouredPlaces (offerAll s g (n ∷ ns)) g (n ∷ ns)
   pub poured : pourMade v (offerAll s g (n ∷ ns)) ≡ octets (entriesOf (inTime v (offerAll s g (n ∷ ns) .group)))
-  pub octet-count : length (entriesOf (inTime v (offerAll s g (n ∷ ns) .group))) ≡ (g .l + 1) * g .b + bodyOctets (inTime v (offerAll s g (n ∷ ns) .group))
+  pub octet-count :
+      length (entriesOf (inTime v (offerAll s g (n ∷ ns) .group)))
+      ≡ (g .l + 1) * g .b + bodyOctets (inTime v (offerAll s g (n ∷ ns) .group))
 
--- "Take one interleave group .. and a session ready for it .. Offer at least one of its packets, any of them, in any order, repeats allowed."
+-- "one interleave group .. and a session ready for it .. Offer at least one of its packets, any of them, in any order, repeats allowed."
 unfoldable pub Demand3 : Type 0
 Demand3 =
-    (v : Vocoder) → HasRoom v → (form : Form) (g : Sent v form) (s : Session) → Ready s g → (n : ℕ) (ns : List ℕ) → Within (g .l) (n ∷ ns) →
+    (v : FrameTable) → HasRoom v → (form : Form) (g : Sent v form) (s : Session) → Ready s g → (n : ℕ) (ns : List ℕ) →
+    Within (g .l) (n ∷ ns) →
     Delivered s g n ns

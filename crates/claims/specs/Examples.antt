@@ -1,26 +1,26 @@
 -- Document 01, "Marked examples": P1 to P15, under a single claim.
 use Prim.Native.Nat.{ℕ, zero, suc}
 use mathlib.Core.Path.{_≡_}
-use mathlib.Core.Bool.{true}
+use mathlib.Core.Bool.{true, false}
 use mathlib.Core.List.{List, [], _∷_, _++_, map}
 use lib.ListN.{length, replicate}
-use Rattle.frame.specs.Table.{evrc}
-use Rattle.frame.specs.Agreed.{agreedForm}
-use Rattle.frame.specs.Answers.{numberOf}
+use Rattle.form.specs.Agreed.{tableOf}
+use Rattle.form.specs.Agreed.{defaultForm}
+use Rattle.answers.specs.Answers.{numberOf}
 use Rattle.frame.specs.Places.{locatedOf, bodyOf}
-use Rattle.frame.specs.declared.Form.{Form}
-use Rattle.frame.specs.declared.Form.the-variants.{HeaderFree, Interleaved}
+use Rattle.form.specs.declared.Form.{Form}
+use Rattle.form.specs.declared.Form.the-variants.{HeaderFree, Interleaved}
 use Rattle.frame.specs.declared.Located.{Located}
 use Rattle.frame.specs.declared.Located.the-variants.{At}
-use Rattle.frame.specs.declared.Refusal.the-variants.{LaterGroup, ContradictsGroup, EarlierGroup}
-use Rattle.session.specs.Session.{inGroup, refuse}
+use Rattle.answers.specs.declared.Refusal.the-variants.{LaterGroup, ContradictsGroup, EarlierGroup}
+use Rattle.session.specs.Session.{placed, refuse}
 use Rattle.session.specs.declared.Session.{Session}
 use Rattle.session.specs.declared.Arrival.{Arrival}
-use Rattle.holding.specs.Bases.{baseSequence, baseTimestamp}
-use Rattle.recording.specs.Recording.{evrcOpening}
-use Rattle.capture.specs.Table.{good}
-use Rattle.capture.specs.Run.{recordingOf}
-use Rattle.payload.specs.Payload.{Reading, packet, refused, readAs}
+use Rattle.holding.specs.Group.{isNothing}
+use Rattle.numbers.specs.Bases.{baseSequence, baseTimestamp}
+use Rattle.capture.specs.Capture.{good}
+use Rattle.capture.specs.Run.{captureKind, captureRecording}
+use Rattle.payload.specs.Payload.{Reading, packet, refusedPayload, readAs}
 use Rattle.payload.specs.Shown.{givenAs}
 
 -- what is said of a payload: L, N, B, D, where each frame lies and its body; or the number of the refusal
@@ -35,14 +35,14 @@ from m (suc n) = m ∷ from (suc m) n
 
 -- the same of what a payload was read as
 abbrev saidOf : Form → List ℕ → Reading → Says
-saidOf f p (refused r) = number (numberOf r)
+saidOf f p (refusedPayload r) = number (numberOf r)
 saidOf f p (packet l n d fs) =
-    holds l n (length fs) d (map (locatedOf (givenAs evrc f p)) (from 0 (length fs)))
-    (map (bodyOf (givenAs evrc f p)) (from 0 (length fs)))
+    holds l n (length fs) d (map (locatedOf (givenAs (tableOf f) f p)) (from 0 (length fs)))
+    (map (bodyOf (givenAs (tableOf f) f p)) (from 0 (length fs)))
 
 -- what is said of a payload in a form
 abbrev pub said : Form → List ℕ → Says
-said f p = saidOf f p (readAs evrc f p)
+said f p = saidOf f p (readAs (tableOf f) f p)
 
 -- a row: a form, octets, and what is said of them
 pub record Row : Type 0 where
@@ -58,32 +58,42 @@ maximumSix = Interleaved (record { «max_l» = 6; «max_b» = 10 })
 abbrev pub rows : List Row
 rows =
     -- P1: L 1, N 0, B 2, bodies at 3 and 5
-    record { form = agreedForm; octets = 0x08 ∷ 0x81 ∷ 0x01 ∷ 0x11 ∷ 0x11 ∷ 0x33 ∷ 0x33 ∷ []; says = holds 1 0 2 0 (At 1 3 2 ∷ At 1 5 2 ∷ []) ((0x11 ∷ 0x11 ∷ []) ∷ (0x33 ∷ 0x33 ∷ []) ∷ []) } ∷
+    record {
+      form = defaultForm;
+      octets = 0x08 ∷ 0x81 ∷ 0x01 ∷ 0x11 ∷ 0x11 ∷ 0x33 ∷ 0x33 ∷ [];
+      says = holds 1 0 2 0 (At 1 3 2 ∷ At 1 5 2 ∷ []) ((0x11 ∷ 0x11 ∷ []) ∷ (0x33 ∷ 0x33 ∷ []) ∷ []);
+    } ∷
     -- P2 to P6
-    record { form = agreedForm; octets = []; says = number 1 } ∷
-    record { form = agreedForm; octets = 0x0A ∷ []; says = number 2 } ∷
-    record { form = agreedForm; octets = 0x30 ∷ []; says = number 3 } ∷
+    record { form = defaultForm; octets = []; says = number 1 } ∷
+    record { form = defaultForm; octets = 0x0A ∷ []; says = number 2 } ∷
+    record { form = defaultForm; octets = 0x30 ∷ []; says = number 3 } ∷
     record { form = maximumSix; octets = 0x30 ∷ []; says = number 4 } ∷
-    record { form = agreedForm; octets = 0x00 ∷ 0x81 ∷ []; says = number 4 } ∷
-    record { form = agreedForm; octets = 0x00 ∷ 0x02 ∷ []; says = number 5 } ∷
+    record { form = defaultForm; octets = 0x00 ∷ 0x81 ∷ []; says = number 4 } ∷
+    record { form = defaultForm; octets = 0x00 ∷ 0x02 ∷ []; says = number 5 } ∷
     -- P7: ten times 81, then 01
-    record { form = agreedForm; octets = 0x00 ∷ (replicate 10 0x81 ++ (0x01 ∷ [])); says = number 6 } ∷
+    record { form = defaultForm; octets = 0x00 ∷ (replicate 10 0x81 ++ (0x01 ∷ [])); says = number 6 } ∷
     -- P8, P9
-    record { form = agreedForm; octets = 0x00 ∷ 0x01 ∷ 0x11 ∷ []; says = number 7 } ∷
-    record { form = agreedForm; octets = 0x00 ∷ 0x01 ∷ 0x11 ∷ 0x11 ∷ 0x00 ∷ []; says = number 8 } ∷
+    record { form = defaultForm; octets = 0x00 ∷ 0x01 ∷ 0x11 ∷ []; says = number 7 } ∷
+    record { form = defaultForm; octets = 0x00 ∷ 0x01 ∷ 0x11 ∷ 0x11 ∷ 0x00 ∷ []; says = number 8 } ∷
     -- P10: accepted, one Blank
-    record { form = agreedForm; octets = 0xC0 ∷ 0x00 ∷ []; says = holds 0 0 1 0 (At 0 2 0 ∷ []) ([] ∷ []) } ∷
+    record { form = defaultForm; octets = 0xC0 ∷ 0x00 ∷ []; says = holds 0 0 1 0 (At 0 2 0 ∷ []) ([] ∷ []) } ∷
     -- P14: lengths 22, 0 and 5
     record { form = HeaderFree; octets = replicate 22 0x55; says = holds 0 0 1 0 (At 4 0 22 ∷ []) (replicate 22 0x55 ∷ []) } ∷
     record { form = HeaderFree; octets = []; says = number 9 } ∷
     record { form = HeaderFree; octets = replicate 5 0x55; says = number 9 } ∷
     []
 
+-- a session that holds a group of base FFFF and L 1
+pub record HoldsP15 (s : Session) : Type 0 where
+  pub some : isNothing (s .group) ≡ false
+  pub base : s .group .sequence ≡ 0xFFFF
+  pub length-one : s .group .l ≡ 1
+
 -- (P15) "held base FFFF, L 1: new base 0001 is 12, 0000 is 11, FFFE is 13", of any session that holds such a group
 pub record P15 : Type 0 where
-  pub later : (s : Session) (a : Arrival) → s .group .sequence ≡ 0xFFFF → s .group .l ≡ 1 → a .sequence ≡ 0x0001 → inGroup s a ≡ refuse s LaterGroup
-  pub inside : (s : Session) (a : Arrival) → s .group .sequence ≡ 0xFFFF → s .group .l ≡ 1 → a .sequence ≡ 0x0000 → inGroup s a ≡ refuse s ContradictsGroup
-  pub earlier : (s : Session) (a : Arrival) → s .group .sequence ≡ 0xFFFF → s .group .l ≡ 1 → a .sequence ≡ 0xFFFE → inGroup s a ≡ refuse s EarlierGroup
+  pub later : (s : Session) (a : Arrival) → HoldsP15 s → a .numbers .sequence ≡ 0x0001 → placed s a ≡ refuse s LaterGroup
+  pub inside : (s : Session) (a : Arrival) → HoldsP15 s → a .numbers .sequence ≡ 0x0000 → placed s a ≡ refuse s ContradictsGroup
+  pub earlier : (s : Session) (a : Arrival) → HoldsP15 s → a .numbers .sequence ≡ 0xFFFE → placed s a ≡ refuse s EarlierGroup
 
 -- the whole case: two packets of one group
 abbrev pub wholeCase : List ℕ
@@ -104,7 +114,7 @@ secondLost =
 -- a capture is good, and its recording is the opening octets and these
 pub record Records (c w : List ℕ) : Type 0 where
   pub whole : good c ≡ true
-  pub recording : recordingOf evrc evrcOpening c ≡ evrcOpening ++ w
+  pub recording : captureRecording captureKind c ≡ captureKind .opening ++ w
 
 -- (P11) and (P12)
 pub record WholeCase : Type 0 where
@@ -115,7 +125,7 @@ pub record WholeCase : Type 0 where
 -- octets are a frame of type 4
 pub record MarkedExamples : Type 0 where
   pub asSaid : map (λ (r : Row). said (r .form) (r .octets)) rows ≡ map (λ (r : Row). r .says) rows
-  pub anyRate1 : (p : List ℕ) → length p ≡ 22 → readAs evrc HeaderFree p ≡ packet 0 0 0 (record { type = 4; body = p } ∷ [])
+  pub anyRate1 : (p : List ℕ) → length p ≡ 22 → readAs (tableOf HeaderFree) HeaderFree p ≡ packet 0 0 0 (record { type = 4; body = p } ∷ [])
   pub bases : (baseSequence 0 1 ≡ 0xFFFF) × (baseTimestamp 0 1 ≡ 0xFFFFFF60)
   pub distances : P15
   pub captures : WholeCase

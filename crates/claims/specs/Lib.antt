@@ -1,4 +1,6 @@
 pub mod Main
+pub mod Call
+pub mod Calls
 pub mod Demand1
 pub mod Packets
 pub mod Payloads

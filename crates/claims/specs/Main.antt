@@ -2,25 +2,25 @@
 -- order; proofs/Main.antt has its one value. A claim that is no field here, and no part of one, is refused by the gate (tools/claims).
 use Rattle.claims.specs.Demand1.{Demand1}
 use Rattle.claims.specs.Payloads.{RRIgnored, RefusalsPartEmpty}
-use Rattle.claims.specs.Sessions.{RefusedOfferChangesNothing, AnotherSourceIs10, AnotherSourcesWordsAreNotHeard}
-use Rattle.claims.specs.Sessions.{OpeningForgets, EndingForgets, EndedTakesNothing, FirstPacketBeginsAlone}
-use Rattle.claims.specs.Sessions.{RepeatChangesNothing, LostFramesByFormula, OctetCountByFormula}
-use Rattle.claims.specs.Lent.{ZeroIsNeverOpened, NoSessionTakesNothing, NoHoldingHoldsNothing}
-use Rattle.claims.specs.Lent.{HoldingReadsBack, SessionReadsBack, EqualKnowledgeEqualOctets}
-use Rattle.claims.specs.Packets.{PacketReadAfterWrite, PacketWriteAfterRead, EvrcPasses}
-use Rattle.claims.specs.Packets.{HeaderFreeReadAfterWrite, HeaderFreeWriteAfterRead}
+use Rattle.claims.specs.Sessions.{RefusedOfferChangesNothing, AnotherSourceIs10, AnotherSourcesWordsAreNotHeard, OpeningForgets}
+use Rattle.claims.specs.Sessions.{EndingForgets, EndedTakesNothing, FirstPacketBeginsAlone, RepeatChangesNothing}
+use Rattle.claims.specs.Sessions.{LostFramesByFormula, OctetCountByFormula}
+use Rattle.claims.specs.Lent.{ZeroIsNeverOpened, NoSessionTakesNothing, NoHoldingHoldsNothing, HoldingReadsBack, SessionReadsBack}
+use Rattle.claims.specs.Lent.{ShortIsNone, NothingPouredNothingRemembered, SessionLaysBack, HoldingLaysBack}
+use Rattle.claims.specs.Lent.{EqualIsEqualOctets, RepeatChangesNoOctet, EqualKnowledgeEqualOctets}
+use Rattle.claims.specs.Packets.{PacketReadAfterWrite, PacketWriteAfterRead, KindsPass, HeaderFreeReadAfterWrite}
+use Rattle.claims.specs.Packets.{HeaderFreeWriteAfterRead}
 use Rattle.claims.specs.Recordings.{RecordingReadAfterWrite, RecordingWriteAfterRead, RecordingSameOctets, OpeningAlone}
 use Rattle.claims.specs.Demand3.{Demand3}
-use Rattle.claims.specs.Sending.{WriterSends, HeaderFreeWriterSends, WriterSendsNoErasure, EvrcNeverSendsErasures}
+use Rattle.claims.specs.Sending.{WriterSends, HeaderFreeWriterSends, WriterSendsNoErasure, TablesNeverSendErasures}
 use Rattle.claims.specs.Missing.{OneMissingPacket}
 use Rattle.claims.specs.Boxes.{CopiedOut, BoxesJoin}
 use Rattle.claims.specs.Joinings.{EveryOrderAndGrouping, EveryPermutation, WithItself, DifferenceEndsIn14, ElseTheyJoin}
-use Rattle.claims.specs.Joinings.{NothingLost, NothingInvented, EqualKnowledge, EveryPlaceInTime, EvrcHasRoom}
-use Rattle.claims.specs.Captures.{GroupIsRecorded, FirstSourceAlone, OthersAreNotHeard, GivesARecording}
-use Rattle.claims.specs.Captures.{NoPacketGivesOpening, NothingIsLarger, CaptureExactlyIf}
+use Rattle.claims.specs.Joinings.{NothingLost, NothingInvented, EqualKnowledge, EveryPlaceInTime, TablesHaveRoom}
+use Rattle.claims.specs.Captures.{GroupIsRecorded, FirstSourceAlone, OthersAreNotHeard, GivesARecording, NoPacketGivesOpening}
+use Rattle.claims.specs.Captures.{NothingIsLarger, CaptureExactlyIf}
 use Rattle.claims.specs.Examples.{MarkedExamples}
-use Rattle.claims.specs.Idle.{RefusesEverything, PoursErasures, StoresNothing}
-use Rattle.claims.specs.Idle.{NodsAtLater, InventsLostFrames, InventsOctetCounts}
+use Rattle.claims.specs.Idle.{RefusesEverything, PoursErasures, StoresNothing, NodsAtLater, InventsLostFrames, InventsOctetCounts}
 use Rattle.claims.specs.Determined.{Determined}
 
 -- every claim of the pages beside this one
@@ -39,10 +39,16 @@ pub record Promised : Type 0 where
   pub first-packet-begins-alone : FirstPacketBeginsAlone
   -- the octets that a host lends for sessions and holdings
   pub zero-is-never-opened : ZeroIsNeverOpened
+  pub short-is-none : ShortIsNone
   pub no-session-takes-nothing : NoSessionTakesNothing
   pub no-holding-holds-nothing : NoHoldingHoldsNothing
   pub holding-reads-back : HoldingReadsBack
+  pub nothing-poured-nothing-remembered : NothingPouredNothingRemembered
   pub session-reads-back : SessionReadsBack
+  pub session-lays-back : SessionLaysBack
+  pub holding-lays-back : HoldingLaysBack
+  pub equal-is-equal-octets : EqualIsEqualOctets
+  pub repeat-changes-no-octet : RepeatChangesNoOctet
   pub equal-knowledge-equal-octets : EqualKnowledgeEqualOctets
   -- demand 2: "Writing and then reading gives back the frames; reading and then writing gives back the octets"
   pub rr-ignored : RRIgnored
@@ -50,7 +56,7 @@ pub record Promised : Type 0 where
   pub packet-write-after-read : PacketWriteAfterRead
   pub header-free-read-after-write : HeaderFreeReadAfterWrite
   pub header-free-write-after-read : HeaderFreeWriteAfterRead
-  pub evrc-passes : EvrcPasses
+  pub kinds-pass : KindsPass
   pub recording-read-after-write : RecordingReadAfterWrite
   pub recording-write-after-read : RecordingWriteAfterRead
   pub recording-same-octets : RecordingSameOctets
@@ -65,7 +71,7 @@ pub record Promised : Type 0 where
   -- "If exactly one packet of two or more is missing, exactly as many erasures stand there as a packet has frames"
   pub one-missing-packet : OneMissingPacket
   pub writer-sends-no-erasure : WriterSendsNoErasure
-  pub evrc-never-sends-erasures : EvrcNeverSendsErasures
+  pub tables-never-send-erasures : TablesNeverSendErasures
   -- "Holdings of that same group from several boxes join to the same holding in every order and grouping"
   pub every-order-and-grouping : EveryOrderAndGrouping
   pub every-permutation : EveryPermutation
@@ -76,7 +82,7 @@ pub record Promised : Type 0 where
   pub nothing-invented : NothingInvented
   pub equal-knowledge : EqualKnowledge
   pub every-place-in-time : EveryPlaceInTime
-  pub evrc-has-room : EvrcHasRoom
+  pub tables-have-room : TablesHaveRoom
   -- "the outcome is what one box would hold had it heard all those packets"
   pub copied-out : CopiedOut
   pub boxes-join : BoxesJoin

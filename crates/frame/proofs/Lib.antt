@@ -1,4 +1,2 @@
-pub mod TableLaws
-pub mod AgreedLaws
-pub mod PlaceLaws
-pub mod OutputLaws
+pub mod FrameTableLaws
+pub mod PlacesLaws

@@ -1,6 +1,3 @@
-pub mod Table
+pub mod FrameTable
 pub mod Entry
-pub mod Answers
-pub mod Agreed
 pub mod Places
-pub mod Outputs

@@ -1,22 +1,29 @@
 // Two boxes' holdings of one group, joined and poured, once for each octet of standard input (at most 65,536). Each round changes
 // a body by its octet, so that no round is the one before. Writes how many octets were poured in all, and what was poured last.
-use frame::Written;
+use answers::Answer;
+use answers::Refusal;
+use answers::Written;
+use bundle::Bundle;
+use entries::Counted;
+use entries::Rule;
+use form::Form;
+use form::Limits;
+use form::Opened;
 use holding::Holding;
-use holding::Packet;
 use libc::STDIN_FILENO;
 use libc::STDOUT_FILENO;
 ghost use Prim.Native.Nat.{_<_};
 
 // A packet of ten full rate frames, its bodies all of octet x.
-fn full(x: u8) -> Packet {
+fn full(x: u8) -> Bundle {
     let marks = [4u8; 10];
     let room = [x; 220];
-    Packet { marks, room }
+    Bundle { marks, room }
 }
 
 // A group of L 5 and B 10 of which nothing is held.
 fn group() -> Holding {
-    let mut h = holding::empty();
+    let mut h = holding::nothing();
     h.source = 7;
     h.sequence = 65535;
     h.timestamp = 4294967136;

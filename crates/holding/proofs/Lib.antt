@@ -1,2 +1,1 @@
 pub mod GroupLaws
-pub mod LaidLaws

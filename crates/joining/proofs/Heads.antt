@@ -6,7 +6,7 @@ use mathlib.Core.List.{List}
 use lib.Dec.{eqb}
 use borrow.Author.Tests.{eq-eqb, eqb-true}
 use Rattle.octets.proofs.Logic.{both-true}
-use Rattle.holding.specs.Group.{heldAt, packetOf, withPacket}
+use Rattle.holding.specs.Group.{heldAt, bundleAt, withPacket}
 use Rattle.holding.specs.declared.Holding.{Holding}
 use Rattle.joining.specs.Joining.{sameGroup, takeOne, takeBelow}
 
@@ -27,7 +27,7 @@ one-head : (a b : Holding) (n : ℕ) → SameHead (takeOne a b n) a
 unfolding takeOne withPacket
 one-head a b n = go (heldAt b n)
   where
-    go : (f : Bool) → SameHead (cond f (withPacket a n (packetOf b n)) a) a
+    go : (f : Bool) → SameHead (cond f (withPacket a n (bundleAt b n)) a) a
     go true = record { source = refl; sequence = refl; timestamp = refl; l = refl; b = refl }
     go false = record { source = refl; sequence = refl; timestamp = refl; l = refl; b = refl }
 

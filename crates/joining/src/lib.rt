@@ -1,10 +1,10 @@
 // Joining two holdings (document 01, "Session").
-use frame::Refusal;
-use holding::Answer;
+use answers::Answer;
+use answers::Refusal;
 use holding::Holding;
 ghost use mathlib.Core.Path.{_≡_};
-ghost use Rattle.frame.specs.Table.{evrc};
-ghost use Rattle.holding.specs.Group.{packetIn};
+ghost use Rattle.bundle.specs.Bundles.{bundleIn};
+ghost use Rattle.holding.specs.Group.{tableOf};
 ghost use Rattle.joining.specs.Joining.{sameGroup, meets, agree, either, refusedJoin, joinOf};
 
 // The answer of a joining, and what it made: a holding of nothing where it was refused.
@@ -42,11 +42,11 @@ fn agrees_at(
     other_room: &[u8],
 ) -> bool
     ensures { λ r. ⌜ r
-        ≡ meets held (packetIn (now (marks .entry)) (now (room .entry))) «other_held» (packetIn (now («other_marks» .entry)) (now («other_room» .entry))) ⌝ }
+        ≡ meets held (bundleIn (now (marks .entry)) (now (room .entry))) «other_held» (bundleIn (now («other_marks» .entry)) (now («other_room» .entry))) ⌝ }
 {
     if held {
         if other_held {
-            return holding::same_packets(marks, room, other_marks, other_room);
+            return bundle::same_bundles(marks, room, other_marks, other_room);
         }
     }
     true
@@ -84,7 +84,7 @@ fn agrees(a: Holding, b: Holding) -> bool
 }
 
 // a with every packet that b holds.
-fn take_all(a: Holding, b: Holding) -> Holding
+fn either(a: Holding, b: Holding) -> Holding
     ensures { λ r. ⌜ r ≡ either a b ⌝ }
 {
     let mut held = a.held;
@@ -122,7 +122,7 @@ fn take_all(a: Holding, b: Holding) -> Holding
 fn refuse(reason: Refusal) -> Joined
     ensures { λ r. ⌜ r ≡ refusedJoin reason ⌝ }
 {
-    let none = holding::empty();
+    let none = holding::nothing();
     Joined {
         answer: Answer::Refused(reason),
         holding: none,
@@ -131,7 +131,7 @@ fn refuse(reason: Refusal) -> Joined
 
 // Every packet held in a or in b, where they are of one group and do not differ.
 pub fn join(a: Holding, b: Holding) -> Joined
-    ensures { λ r. ⌜ r ≡ joinOf evrc a b ⌝ }
+    ensures { λ r. ⌜ r ≡ joinOf (tableOf a) a b ⌝ }
 {
     let first = holding::holds_packet(a);
     if !first {
@@ -149,7 +149,7 @@ pub fn join(a: Holding, b: Holding) -> Joined
     if !alike {
         return refuse(Refusal::PacketDiffers);
     }
-    let all = take_all(a, b);
+    let all = either(a, b);
     Joined {
         answer: Answer::Done,
         holding: all,

@@ -11,33 +11,33 @@ use lib.ListN.{length, take, drop, length-drop, length-set, take-append-drop}
 use lib.Seq.{getD-set-same, getD-set-other, drop-drop, ext-getD}
 use lib.Dec.{ltb}
 use borrow.Author.Tests.{ltb-true, ltb-false}
-use Rattle.octets.specs.Octets.{over}
-use Rattle.holding.specs.Group.{Shaped, region, heldAt, packetOf, withPacket}
+use Rattle.octets.specs.Octets.{over, region}
+use Rattle.holding.specs.Group.{Shaped, heldAt, bundleAt, withPacket}
 use Rattle.joining.specs.Joining.{takeOne, takeBelow}
 use Rattle.holding.specs.declared.Holding.{Holding}
-use Rattle.holding.specs.declared.Packet.{Packet}
+use Rattle.bundle.specs.declared.Bundle.{Bundle}
 use Rattle.joining.proofs.Heads.{SameHead, same-fields}
-use Rattle.holding.proofs.GroupLaws.{length-region}
-use Rattle.octets.proofs.OctetLaws.{length-over, over-same, over-before, over-after}
+use Rattle.octets.proofs.Regions.{length-region}
+use Rattle.octets.proofs.OctetsLaws.{length-over, over-same, over-before, over-after}
 
 -- ---- the shape that a holding's type gives it
 
-pub record Sized (p : Packet) : Type 0 where
+pub record Sized (p : Bundle) : Type 0 where
   pub ten : length (p .marks) ≡ 10
   pub bodies : length (p .room) ≡ 220
 
-pub packet-sized : (h : Holding) (n : ℕ) → Shaped h → n < 8 → Sized (packetOf h n)
-unfolding packetOf
+pub packet-sized : (h : Holding) (n : ℕ) → Shaped h → n < 8 → Sized (bundleAt h n)
+unfolding bundleAt
 packet-sized h n s k =
     record { ten = length-region (h .marks) 10 n (omega arith); bodies = length-region (h .room) 220 n (omega arith) }
 
 -- ---- cells
 
 abbrev pub Cell : Type 0
-Cell = Bool × Packet
+Cell = Bool × Bundle
 
 unfoldable pub cell : Holding → ℕ → Cell
-cell h n = (heldAt h n, packetOf h n)
+cell h n = (heldAt h n, bundleAt h n)
 
 -- b's cell where it is held, else a's
 abbrev pub mix : Cell → Cell → Cell
@@ -66,7 +66,7 @@ module _ (xs : List ℕ) (s n : ℕ) (p : List ℕ) (e : length p ≡ s) (fits :
       next : (i j : ℕ) → i < j → s * i + s ≤ s * j
       next i j q = omega (arith, mul-le-mul-left s q, mul-suc s i)
 
-module _ (h : Holding) (n : ℕ) (p : Packet) (s : Shaped h) (z : Sized p) (k : n < 8) where
+module _ (h : Holding) (n : ℕ) (p : Bundle) (s : Shaped h) (z : Sized p) (k : n < 8) where
   pub with-shaped : Shaped (withPacket h n p)
   unfolding withPacket
   with-shaped =
@@ -77,12 +77,12 @@ module _ (h : Holding) (n : ℕ) (p : Packet) (s : Shaped h) (z : Sized p) (k : 
       }
 
   pub with-here : cell (withPacket h n p) n ≡ (true, p)
-  unfolding cell withPacket heldAt packetOf
+  unfolding cell withPacket heldAt bundleAt
   with-here =
       rw (getD-set-same (h .held) n true false (omega arith), region-here (h .marks) 10 n (p .marks) (z .ten) (omega arith), region-here (h .room) 220 n (p .room) (z .bodies) (omega arith))
 
   pub with-other : (m : ℕ) → (m ≡ n → ⊥) → cell (withPacket h n p) m ≡ cell h m
-  unfolding cell withPacket heldAt packetOf
+  unfolding cell withPacket heldAt bundleAt
   with-other m d =
       rw (getD-set-other (h .held) n m true false d, region-other (h .marks) 10 n (p .marks) (z .ten) (omega arith) m d, region-other (h .room) 220 n (p .room) (z .bodies) (omega arith) m d)
 
@@ -93,24 +93,24 @@ module _ (h b : Holding) (n : ℕ) (s : Shaped h) (t : Shaped b) (k : n < 8) whe
   unfolding takeOne
   one-shaped = go (heldAt b n)
     where
-      go : (f : Bool) → Shaped (cond f (withPacket h n (packetOf b n)) h)
-      go true = with-shaped h n (packetOf b n) s (packet-sized b n t k) k
+      go : (f : Bool) → Shaped (cond f (withPacket h n (bundleAt b n)) h)
+      go true = with-shaped h n (bundleAt b n) s (packet-sized b n t k) k
       go false = s
 
   one-here : cell (takeOne h b n) n ≡ mix (cell h n) (cell b n)
   unfolding takeOne cell
   one-here = go (heldAt b n)
     where
-      go : (f : Bool) → cell (cond f (withPacket h n (packetOf b n)) h) n ≡ cond f (f, packetOf b n) (cell h n)
-      go true = with-here h n (packetOf b n) s (packet-sized b n t k) k
+      go : (f : Bool) → cell (cond f (withPacket h n (bundleAt b n)) h) n ≡ cond f (f, bundleAt b n) (cell h n)
+      go true = with-here h n (bundleAt b n) s (packet-sized b n t k) k
       go false = refl
 
   one-other : (m : ℕ) → (m ≡ n → ⊥) → cell (takeOne h b n) m ≡ cell h m
   unfolding takeOne
   one-other m d = go (heldAt b n)
     where
-      go : (f : Bool) → cell (cond f (withPacket h n (packetOf b n)) h) m ≡ cell h m
-      go true = with-other h n (packetOf b n) s (packet-sized b n t k) k m d
+      go : (f : Bool) → cell (cond f (withPacket h n (bundleAt b n)) h) m ≡ cell h m
+      go true = with-other h n (bundleAt b n) s (packet-sized b n t k) k m d
       go false = refl
 
 module _ (a b : Holding) (s : Shaped a) (t : Shaped b) where
@@ -161,7 +161,7 @@ regions-ext (suc m) s xs ys e f h =
     next zs n = let e : s + s * n ≡ s * suc n = omega (arith, mul-suc s n) in rw (drop-drop (s * n) s zs, e)
 
 pub cells-ext : (a b : Holding) → Shaped a → Shaped b → SameHead a b → ((n : ℕ) → n < 8 → cell a n ≡ cell b n) → a ≡ b
-unfolding cell packetOf heldAt
+unfolding cell bundleAt heldAt
 cells-ext a b s t e h =
     let hd : a .held ≡ b .held = ext-getD false (a .held) (b .held) (s .long-held ∙ sym (t .long-held)) (λ n k. ap (λ (x : Cell). x .0) (h n (omega arith))) in
     let mk : a .marks ≡ b .marks = regions-ext 8 10 (a .marks) (b .marks) (s .long-marks) (t .long-marks) (λ n k. ap (λ (x : Cell). x .1 .marks) (h n k)) in

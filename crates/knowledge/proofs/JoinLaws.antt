@@ -7,16 +7,18 @@ use mathlib.Core.Logic.{_⊎_, ⊎-elim, inl, inr}
 use native.Mathlib.Omega.{arith}
 use lib.ListN.{length, getD}
 use lib.Dec.{leb}
-use Rattle.octets.specs.Octets.{anySet}
+use Rattle.octets.specs.Octets.{anySet, allBelow}
 use Rattle.octets.proofs.Logic.{apart, both-true}
-use Rattle.frame.specs.Table.{Vocoder}
-use Rattle.frame.specs.declared.Refusal.the-variants.{PacketDiffers}
-use Rattle.holding.specs.Group.{Shaped, allBelow, erased, samePackets, framesRight, heldAt, packetOf, packetRight, rightAt, sound, holds}
+use Rattle.frame.specs.FrameTable.{FrameTable}
+use Rattle.answers.specs.declared.Refusal.the-variants.{PacketDiffers}
+use Rattle.holding.specs.Group.{Shaped, heldAt, bundleAt, packetRight, rightAt, sound, holds}
+use Rattle.bundle.specs.Bundles.{notHeld, sameBundles, framesRight}
 use Rattle.joining.specs.Joining.{meets, agreeAt, agree, either, refusedJoin, joinOf}
 use Rattle.holding.specs.declared.Holding.{Holding}
-use Rattle.holding.specs.declared.Packet.{Packet}
-use Rattle.holding.specs.declared.Answer.the-variants.{Done}
-use Rattle.holding.proofs.GroupLaws.{all-at, all-intro, all-fails, Sound, sound-has, has-sound, holds-sound}
+use Rattle.bundle.specs.declared.Bundle.{Bundle}
+use Rattle.answers.specs.declared.Answer.the-variants.{Done}
+use Rattle.holding.proofs.GroupLaws.{Sound, sound-has, has-sound, holds-sound}
+use Rattle.octets.proofs.Below.{all-at, all-intro, all-fails}
 use Rattle.joining.proofs.Heads.{SameHead, take-head, head-group, head-sym, head-refl, head-trans}
 use Rattle.knowledge.specs.Knowledge.{Box, Among}
 use Rattle.knowledge.proofs.Cells.{Cell, cell, mix, take-shaped, take-cell, cells-ext}
@@ -39,37 +41,37 @@ all-witness f (suc n) e = go (f n) refl e (λ h. all-witness f n h)
     go false q h i = record { at = n; below = omega arith; fails = q }
 
 -- ---- cells of a box
-abbrev cellRight : Vocoder → ℕ → ℕ → ℕ → Cell → Bool
+abbrev cellRight : FrameTable → ℕ → ℕ → ℕ → Cell → Bool
 cellRight v l b n x = packetRight v l b n (x .0) (x .1)
 
-pub box-sound : (v : Vocoder) (h : Holding) → Box v h → Sound v h
+pub box-sound : (v : FrameTable) (h : Holding) → Box v h → Sound v h
 box-sound v h x = sound-has v h (holds-sound v h (x .some) .0)
 
-box-cell : (v : Vocoder) (h : Holding) → Box v h → (n : ℕ) → n < 8 → cellRight v (h .l) (h .b) n (cell h n) ≡ true
+box-cell : (v : FrameTable) (h : Holding) → Box v h → (n : ℕ) → n < 8 → cellRight v (h .l) (h .b) n (cell h n) ≡ true
 unfolding cell rightAt
 box-cell v h x n k = all-at (rightAt v h) 8 n (box-sound v h x .packets) k
 
-cell-blank : (v : Vocoder) (l b n : ℕ) (x : Cell) → cellRight v l b n x ≡ true → x .0 ≡ false → x .1 ≡ erased
+cell-blank : (v : FrameTable) (l b n : ℕ) (x : Cell) → cellRight v l b n x ≡ true → x .0 ≡ false → x .1 ≡ notHeld
 unfolding packetRight
 cell-blank v l b n (true, p) e f = apart (cc)
-cell-blank v l b n (false, p) e f = packets-true p erased e
+cell-blank v l b n (false, p) e f = packets-true p notHeld e
 
 -- a packet that is not held reads as erasures
-pub box-blank : (v : Vocoder) (h : Holding) → Box v h → (n : ℕ) → n < 8 → heldAt h n ≡ false → packetOf h n ≡ erased
+pub box-blank : (v : FrameTable) (h : Holding) → Box v h → (n : ℕ) → n < 8 → heldAt h n ≡ false → bundleAt h n ≡ notHeld
 unfolding cell
 box-blank v h x n k e = cell-blank v (h .l) (h .b) n (cell h n) (box-cell v h x n k) e
 
 -- one that is held is none above L, and its frames keep the rule
-pub right-held : (v : Vocoder) (h : Holding) → Box v h → (n : ℕ) → n < 8 → heldAt h n ≡ true → (leb n (h .l) ≡ true) × (framesRight v (h .b) (packetOf h n) ≡ true)
+pub right-held : (v : FrameTable) (h : Holding) → Box v h → (n : ℕ) → n < 8 → heldAt h n ≡ true → (leb n (h .l) ≡ true) × (framesRight v (h .b) (bundleAt h n) ≡ true)
 unfolding cell packetRight
-right-held v h x n k e = both-true (leb n (h .l)) (framesRight v (h .b) (packetOf h n)) (go (heldAt h n) e (box-cell v h x n k))
+right-held v h x n k e = both-true (leb n (h .l)) (framesRight v (h .b) (bundleAt h n)) (go (heldAt h n) e (box-cell v h x n k))
   where
-    go : (t : Bool) → t ≡ true → cond t (leb n (h .l) && framesRight v (h .b) (packetOf h n)) (samePackets (packetOf h n) erased) ≡ true → leb n (h .l) && framesRight v (h .b) (packetOf h n) ≡ true
+    go : (t : Bool) → t ≡ true → cond t (leb n (h .l) && framesRight v (h .b) (bundleAt h n)) (sameBundles (bundleAt h n) notHeld) ≡ true → leb n (h .l) && framesRight v (h .b) (bundleAt h n) ≡ true
     go true p q = q
     go false p q = apart (cc)
 
 -- ---- every packet of either, of two boxes of one group
-mix-right : (v : Vocoder) (l b n : ℕ) (x y : Cell) → cellRight v l b n x ≡ true → cellRight v l b n y ≡ true → cellRight v l b n (mix x y) ≡ true
+mix-right : (v : FrameTable) (l b n : ℕ) (x y : Cell) → cellRight v l b n x ≡ true → cellRight v l b n y ≡ true → cellRight v l b n (mix x y) ≡ true
 mix-right v l b n x (true, q) e f = f
 mix-right v l b n x (false, q) e f = e
 
@@ -85,11 +87,11 @@ any-more (true ∷ s) (y ∷ t) e h f = let g : y ≡ true = h 0 (omega arith) r
 any-more (false ∷ s) (true ∷ t) e h f = refl
 any-more (false ∷ s) (false ∷ t) e h f = any-more s t (omega arith) (λ n k. h (suc n) (omega arith)) f
 
-right-cell : (v : Vocoder) (h : Holding) (n : ℕ) → rightAt v h n ≡ cellRight v (h .l) (h .b) n (cell h n)
+right-cell : (v : FrameTable) (h : Holding) (n : ℕ) → rightAt v h n ≡ cellRight v (h .l) (h .b) n (cell h n)
 unfolding rightAt cell
 right-cell v h n = refl
 
-module _ (v : Vocoder) (a b : Holding) (x : Box v a) (y : Box v b) (g : SameHead a b) where
+module _ (v : FrameTable) (a b : Holding) (x : Box v a) (y : Box v b) (g : SameHead a b) where
   either-shaped : Shaped (either a b)
   either-shaped = take-shaped a b (x .shaped) (y .shaped) 8 (omega arith)
 
@@ -151,7 +153,7 @@ agree-at a b e n k = sym (agree-cell a b n) ∙ all-at (agreeAt a b) 8 n e k
 
 pub meets-same : (x y : Cell) → meetCells x y ≡ true → x .0 ≡ true → y .0 ≡ true → x ≡ y
 unfolding meets
-meets-same (true, p) (true, q) e f g = ap (λ (r : Packet). (true, r)) (packets-true p q e)
+meets-same (true, p) (true, q) e f g = ap (λ (r : Bundle). (true, r)) (packets-true p q e)
 meets-same (true, p) (false, q) e f g = apart (cc)
 meets-same (false, p) y e f g = apart (cc)
 
@@ -193,25 +195,25 @@ pub record Clash (xs ys : List Holding) : Type 0 where
   pub y-in : Among y ys
   pub differ : agree x y ≡ false
 
--- one of the boxes holds packet n
-pub record HeldBy (xs : List Holding) (n : ℕ) : Type 0 where
+-- one of the boxes has this cell of packet n
+pub record CellBy (xs : List Holding) (n : ℕ) (c : Cell) : Type 0 where
   pub box : Holding
   pub is-in : Among box xs
-  pub held : heldAt box n ≡ true
+  pub has : cell box n ≡ c
 
-pub record Sum (v : Vocoder) (xs : List Holding) (h : Holding) : Type 0 where
+pub record Sum (v : FrameTable) (xs : List Holding) (h : Holding) : Type 0 where
   pub whole : Box v h
   pub one-group : (a : Holding) → Among a xs → SameHead a h
   pub kept : (a : Holding) → Among a xs → (n : ℕ) → n < 8 → heldAt a n ≡ true → cell h n ≡ cell a n
-  pub from : (n : ℕ) → n < 8 → heldAt h n ≡ true → HeldBy xs n
+  pub from : (n : ℕ) → n < 8 → CellBy xs n (cell h n)
 
-pub sum-one : (v : Vocoder) (h : Holding) → Box v h → Sum v (h ∷ []) h
+pub sum-one : (v : FrameTable) (h : Holding) → Box v h → Sum v (h ∷ []) h
 sum-one v h x =
     record {
       whole = x;
       one-group = λ a i. alone (λ (b : Holding). SameHead b h) a i (head-refl h);
       kept = λ a i n k e. alone (λ (b : Holding). cell h n ≡ cell b n) a i refl;
-      from = λ n k e. record { box = h; is-in = inl refl; held = e };
+      from = λ n k. record { box = h; is-in = inl refl; has = refl };
     }
   where
     alone : (P : Holding → Type 0) (a : Holding) → Among a (h ∷ []) → P h → P a
@@ -220,17 +222,13 @@ sum-one v h x =
 -- ---- two sums joined
 mix-first : (x y : Cell) → meetCells x y ≡ true → x .0 ≡ true → mix x y ≡ x
 unfolding meets
-mix-first (true, p) (true, q) e f = ap (λ (r : Packet). (true, r)) (sym (packets-true p q e))
+mix-first (true, p) (true, q) e f = ap (λ (r : Bundle). (true, r)) (sym (packets-true p q e))
 mix-first (true, p) (false, q) e f = refl
 mix-first (false, p) y e f = apart (cc)
 
 mix-second : (x y : Cell) → y .0 ≡ true → mix x y ≡ y
 mix-second x (true, q) e = refl
 mix-second x (false, q) e = apart (cc)
-
-mix-held : (x y : Cell) → mix x y .0 ≡ true → (x .0 ≡ true) ⊎ (y .0 ≡ true)
-mix-held x (true, q) e = inr refl
-mix-held x (false, q) e = inl e
 
 held-cell : (a b : Holding) (n : ℕ) → cell a n ≡ cell b n → heldAt b n ≡ true → heldAt a n ≡ true
 unfolding cell
@@ -240,7 +238,7 @@ pub cell-on : (a : Holding) (n : ℕ) → heldAt a n ≡ true → cell a n .0 �
 unfolding cell
 cell-on a n e = e
 
-module _ (v : Vocoder) (xs ys : List Holding) (a b : Holding) (s : Sum v xs a) (t : Sum v ys b) (g : SameHead a b) where
+module _ (v : FrameTable) (xs ys : List Holding) (a b : Holding) (s : Sum v xs a) (t : Sum v ys b) (g : SameHead a b) where
   -- where they agree, every packet of either is the sum of all
   pub sum-both : agree a b ≡ true → Sum v (xs ++ ys) (either a b)
   unfolding cell
@@ -249,8 +247,7 @@ module _ (v : Vocoder) (xs ys : List Holding) (a b : Holding) (s : Sum v xs a) (
         whole = either-box v a b (s .whole) (t .whole) g;
         one-group = λ c i. ⊎-elim (λ (j : Among c xs). first-group c j) (λ (j : Among c ys). second-group c j) (in-either c xs ys i);
         kept = λ c i n k f. ⊎-elim (λ (j : Among c xs). first-kept c j n k f) (λ (j : Among c ys). second-kept c j n k f) (in-either c xs ys i);
-        from = λ n k f. ⊎-elim (λ (h : heldAt a n ≡ true). first-from n (s .from n k h)) (λ (h : heldAt b n ≡ true). second-from n (t .from n k h))
-            (mix-held (cell a n) (cell b n) (sym (ap (λ (c : Cell). c .0) (joined n k)) ∙ f));
+        from = λ n k. subst (CellBy (xs ++ ys) n) (sym (joined n k)) (of-either n (cell a n) (cell b n) (s .from n k) (t .from n k));
       }
     where
       joined : (n : ℕ) → n < 8 → cell (either a b) n ≡ mix (cell a n) (cell b n)
@@ -275,11 +272,9 @@ module _ (v : Vocoder) (xs ys : List Holding) (a b : Holding) (s : Sum v xs a) (
           let p = t .kept c j n k f in
           joined n k ∙ mix-second (cell a n) (cell b n) (held-cell b c n p f) ∙ p
 
-      first-from : (n : ℕ) → HeldBy xs n → HeldBy (xs ++ ys) n
-      first-from n w = record { box = w .box; is-in = in-left (w .box) xs ys (w .is-in); held = w .held }
-
-      second-from : (n : ℕ) → HeldBy ys n → HeldBy (xs ++ ys) n
-      second-from n w = record { box = w .box; is-in = in-right (w .box) xs ys (w .is-in); held = w .held }
+      of-either : (n : ℕ) (x y : Cell) → CellBy xs n x → CellBy ys n y → CellBy (xs ++ ys) n (mix x y)
+      of-either n x (true, q) p r = record { box = r .box; is-in = in-right (r .box) xs ys (r .is-in); has = r .has }
+      of-either n x (false, q) p r = record { box = p .box; is-in = in-left (p .box) xs ys (p .is-in); has = p .has }
 
   -- and no two of their boxes differ
   pub sum-agree : agree a b ≡ true → (x y : Holding) → Among x xs → Among y ys → agree x y ≡ true
@@ -294,33 +289,35 @@ module _ (v : Vocoder) (xs ys : List Holding) (a b : Holding) (s : Sum v xs a) (
 
   -- where they differ, so do two of their boxes
   pub sum-differ : agree a b ≡ false → Clash xs ys
-  unfolding agree cell
+  unfolding agree
   sum-differ e =
       let w = all-witness (agreeAt a b) 8 e in
       let n = w .at in
-      let m : meetCells (cell a n) (cell b n) ≡ false = sym (agree-cell a b n) ∙ w .fails in
-      let h = meets-held (cell a n) (cell b n) m in
-      let p = s .from n (w .below) (h .0) in
-      let q = t .from n (w .below) (h .1) in
-      let f = s .kept (p .box) (p .is-in) n (w .below) (p .held) in
-      let k = t .kept (q .box) (q .is-in) n (w .below) (q .held) in
-      let z : agreeAt (p .box) (q .box) n ≡ false = agree-cell (p .box) (q .box) n ∙ ap₂ meetCells (sym f) (sym k) ∙ m in
+      let p = s .from n (w .below) in
+      let q = t .from n (w .below) in
+      let z : agreeAt (p .box) (q .box) n ≡ false = agree-cell (p .box) (q .box) n ∙ ap₂ meetCells (p .has) (q .has) ∙ sym (agree-cell a b n) ∙ w .fails in
       record { x = p .box; y = q .box; x-in = p .is-in; y-in = q .is-in; differ = all-fails (agreeAt (p .box) (q .box)) 8 n (w .below) z }
 
 -- a sum of the same boxes is the same
-pub sum-same : (v : Vocoder) (xs ys : List Holding) (a b : Holding) → Sum v xs a → Sum v ys b → SameHead a b → ((h : Holding) → Among h xs → Among h ys) → ((h : Holding) → Among h ys → Among h xs) → a ≡ b
+pub sum-same :
+    (v : FrameTable) (xs ys : List Holding) (a b : Holding) →
+    Sum v xs a →
+    Sum v ys b →
+    SameHead a b →
+    ((h : Holding) → Among h xs → Among h ys) →
+    ((h : Holding) → Among h ys → Among h xs) →
+    a ≡ b
 unfolding cell
 sum-same v xs ys a b s t g to back = cells-ext a b (s .whole .shaped) (t .whole .shaped) g (λ n k. go n k (heldAt a n) refl (heldAt b n) refl)
   where
-    same : (n : ℕ) → n < 8 → HeldBy xs n → cell a n ≡ cell b n
-    same n k w = s .kept (w .box) (w .is-in) n k (w .held) ∙ sym (t .kept (w .box) (to (w .box) (w .is-in)) n k (w .held))
-
     go : (n : ℕ) → n < 8 → (p : Bool) → heldAt a n ≡ p → (q : Bool) → heldAt b n ≡ q → cell a n ≡ cell b n
-    go n k true e q f = same n k (s .from n k e)
+    go n k true e q f =
+        let w = s .from n k in
+        sym (t .kept (w .box) (to (w .box) (w .is-in)) n k (held-cell (w .box) a n (w .has) e) ∙ w .has)
     go n k false e true f =
-        let w = t .from n k f in
-        same n k (record { box = w .box; is-in = back (w .box) (w .is-in); held = w .held })
-    go n k false e false f = ap₂ (λ (x : Bool) (y : Packet). (x, y)) (e ∙ sym f) (box-blank v a (s .whole) n k e ∙ sym (box-blank v b (t .whole) n k f))
+        let w = t .from n k in
+        s .kept (w .box) (back (w .box) (w .is-in)) n k (held-cell (w .box) b n (w .has) f) ∙ w .has
+    go n k false e false f = ap₂ (λ (x : Bool) (y : Bundle). (x, y)) (e ∙ sym f) (box-blank v a (s .whole) n k e ∙ sym (box-blank v b (t .whole) n k f))
 
 -- two that do not agree hold a packet, and not the same
 pub record Unlike (a b : Holding) : Type 0 where
@@ -328,7 +325,7 @@ pub record Unlike (a b : Holding) : Type 0 where
   pub below : packet < 8
   pub first : heldAt a packet ≡ true
   pub second : heldAt b packet ≡ true
-  pub differ : packetOf a packet ≡ packetOf b packet → ⊥
+  pub differ : cell a packet ≡ cell b packet → ⊥
 
 pub unlike-at : (a b : Holding) → agree a b ≡ false → Unlike a b
 unfolding agree cell
@@ -342,11 +339,8 @@ unlike-at a b e =
       below = w .below;
       first = h .0;
       second = h .1;
-      differ = λ q. true-false (sym (same-meets (cell a n) (cell b n) (λ s t. pair (h .0 ∙ sym (h .1)) q)) ∙ m);
+      differ = λ q. true-false (sym (same-meets (cell a n) (cell b n) (λ s t. q)) ∙ m);
     }
   where
     true-false : true ≡ false → ⊥
     true-false z = apart (cc)
-
-    pair : {s t : Bool} {p q : Packet} → s ≡ t → p ≡ q → _≡_ {A = Cell} (s, p) (t, q)
-    pair i j = ap₂ (λ (x : Bool) (y : Packet). (x, y)) i j

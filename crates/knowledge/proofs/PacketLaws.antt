@@ -10,34 +10,37 @@ use lib.ListN.{length, take, drop, getD, replicate, length-take, length-drop, ge
 use lib.Seq.{getD-append-add, getD-take, getD-drop, take-take, drop-drop, take-at, drop-at, drop-append-add, length-take-le, ext-getD}
 use lib.Dec.{T, eqb, ltb}
 use borrow.Author.Tests.{eqb-true, ltb-true, ltb-false, lt-ltb, le-ltb}
-use Rattle.octets.specs.Octets.{allZero, sameOctets}
+use Rattle.octets.specs.Octets.{allZero, sameOctets, region}
 use Rattle.octets.proofs.Logic.{apart, both-true}
-use Rattle.octets.proofs.OctetLaws.{same-refl, same-true, drop-take}
-use Rattle.frame.specs.Table.{Vocoder, Frame, known, size, within, erasure, erases, typesOf, Listed, AllListed}
+use Rattle.octets.proofs.OctetsLaws.{same-refl, same-true, drop-take}
+use Rattle.frame.specs.FrameTable.{FrameTable, Frame, known, size, within, erasure, erases, typesOf, Listed, AllListed}
 use Rattle.frame.specs.Places.{frameAt, noFrame, upTo}
-use Rattle.frame.proofs.TableLaws.{size-within, erasure-listed}
-use Rattle.frame.proofs.PlaceLaws.{length-upTo, upTo-at, types-at, length-types, every-at, every-upTo}
-use Rattle.holding.specs.Group.{region, packetIn, erased, samePackets, markAt, mayStand, frameRight, framesRight, packetOf}
-use Rattle.holding.specs.LaidOut.{filled, rooms, laid}
+use Rattle.frame.proofs.FrameTableLaws.{size-within, erasure-listed}
+use Rattle.frame.proofs.PlacesLaws.{length-upTo, upTo-at, types-at, length-types, every-at, every-upTo}
+use Rattle.holding.specs.Group.{bundleAt}
+use Rattle.bundle.specs.Bundles.{bundleIn, notHeld, sameBundles, markAt, mayStand, frameRight, framesRight}
+use Rattle.bundle.specs.LaidOut.{filled, rooms, laid}
 use Rattle.pouring.specs.Pouring.{frameIn}
 use Rattle.holding.specs.declared.Holding.{Holding}
-use Rattle.holding.specs.declared.Packet.{Packet}
-use Rattle.holding.proofs.GroupLaws.{all-at, all-intro, length-region}
-use Rattle.holding.proofs.LaidLaws.{length-filled, Short, length-rooms, listed-short}
+use Rattle.bundle.specs.declared.Bundle.{Bundle}
+use Rattle.octets.proofs.Regions.{length-region}
+use Rattle.octets.proofs.Below.{all-at, all-intro}
+use Rattle.bundle.proofs.LaidOutLaws.{length-filled, Short, length-rooms, listed-short}
+use Rattle.knowledge.specs.Knowledge.{frameOf}
 use Rattle.knowledge.proofs.Cells.{Sized, regions-ext}
 
 -- ---- packets compared
-same-parts : {m m′ r r′ : List ℕ} → m ≡ m′ → r ≡ r′ → packetIn m r ≡ packetIn m′ r′
+same-parts : {m m′ r r′ : List ℕ} → m ≡ m′ → r ≡ r′ → bundleIn m r ≡ bundleIn m′ r′
 same-parts e f = cc
 
-pub packets-true : (p q : Packet) → samePackets p q ≡ true → p ≡ q
-unfolding samePackets
+pub packets-true : (p q : Bundle) → sameBundles p q ≡ true → p ≡ q
+unfolding sameBundles
 packets-true p q e =
     let h = both-true (sameOctets (p .marks) (q .marks)) (sameOctets (p .room) (q .room)) e in
     same-parts (same-true (p .marks) (q .marks) (h .0)) (same-true (p .room) (q .room) (h .1))
 
-pub packets-refl : (p : Packet) → samePackets p p ≡ true
-unfolding samePackets
+pub packets-refl : (p : Bundle) → sameBundles p p ≡ true
+unfolding sameBundles
 packets-refl p = rw (same-refl (p .marks), same-refl (p .room))
 
 -- ---- a list that is filled up
@@ -130,11 +133,18 @@ filled-tail : (n : ℕ) (xs : List ℕ) (z : ℕ) → length xs ≡ z → allZer
 unfolding filled
 filled-tail n xs z e = rw (drop-at xs (replicate (n - length xs) 0) z e) (zero-list (n - length xs))
 
-right-when : (v : Vocoder) (b k t : ℕ) (r : List ℕ) (p : Packet) → markAt p k ≡ t → region (p .room) 22 k ≡ r → known v t ≡ true → mayStand b k t ≡ true → allZero (drop (size v t) r) ≡ true → frameRight v b p k ≡ true
+right-when :
+    (v : FrameTable) (b k t : ℕ) (r : List ℕ) (p : Bundle) →
+    markAt p k ≡ t →
+    region (p .room) 22 k ≡ r →
+    known v t ≡ true →
+    mayStand b k t ≡ true →
+    allZero (drop (size v t) r) ≡ true →
+    frameRight v b p k ≡ true
 unfolding frameRight
 right-when v b k t r p e f g h i = rw (e, f, g, h, i)
 
-pub laid-right : (v : Vocoder) → T (within 22 v) → T (erases v) → (fs : List Frame) → length fs ≤ 10 → AllListed v fs → framesRight v (length fs) (laid fs) ≡ true
+pub laid-right : (v : FrameTable) → T (within 22 v) → T (erases v) → (fs : List Frame) → length fs ≤ 10 → AllListed v fs → framesRight v (length fs) (laid fs) ≡ true
 unfolding framesRight
 laid-right v w z fs few a = all-intro (frameRight v (length fs) (laid fs)) 10 (λ k h. go k h (ltb k (length fs)) refl)
   where
@@ -158,16 +168,13 @@ laid-right v w z fs few a = all-intro (frameRight v (length fs) (laid fs)) 10 (�
         (erasure-listed v z .0) (may-past (length fs) k i) (zeros-tail (size v erasure) (replicate 22 0) (zero-list 22))
 
 -- ---- a packet that keeps the rule is its frames laid out
-unfoldable pub frameOf : Vocoder → Packet → ℕ → Frame
-frameOf v p k = record { type = markAt p k; body = take (size v (markAt p k)) (region (p .room) 22 k) }
-
 -- what the rule says of frame k
-record Right (v : Vocoder) (b : ℕ) (p : Packet) (k : ℕ) : Type 0 where
+record Right (v : FrameTable) (b : ℕ) (p : Bundle) (k : ℕ) : Type 0 where
   type-known : known v (markAt p k) ≡ true
   stands : mayStand b k (markAt p k) ≡ true
   clear : allZero (drop (size v (markAt p k)) (region (p .room) 22 k)) ≡ true
 
-frame-right : (v : Vocoder) (b : ℕ) (p : Packet) (k : ℕ) → frameRight v b p k ≡ true → Right v b p k
+frame-right : (v : FrameTable) (b : ℕ) (p : Bundle) (k : ℕ) → frameRight v b p k ≡ true → Right v b p k
 unfolding frameRight
 frame-right v b p k e =
     let t = markAt p k in
@@ -192,7 +199,7 @@ room-filled r n z l h e =
     let b : length (drop z r) ≡ n - length (take z r) = omega (arith, length-drop z r) in
     sym (take-append-drop z r) ∙ ap (λ (x : List ℕ). take z r ++ x) (zeros-are (drop z r) e ∙ ap (λ (i : ℕ). replicate i 0) b)
 
-module _ (v : Vocoder) (w : T (within 22 v)) (z : T (erases v)) (b : ℕ) (few : b ≤ 10) (p : Packet) (s : Sized p) (right : framesRight v b p ≡ true) where
+module _ (v : FrameTable) (w : T (within 22 v)) (z : T (erases v)) (b : ℕ) (few : b ≤ 10) (p : Bundle) (s : Sized p) (right : framesRight v b p ≡ true) where
   abbrev ours : List Frame
   ours = upTo (frameOf v p) b
 
@@ -254,8 +261,8 @@ module _ (v : Vocoder) (w : T (within 22 v)) (z : T (erases v)) (b : ℕ) (few :
       same-parts m r
 
 -- ---- frame k of packet n of a holding is frame k of that packet
-pub frame-in : (v : Vocoder) → T (within 22 v) → (h : Holding) (n k : ℕ) → k < 10 → frameIn v (h .marks) (h .room) n k ≡ frameOf v (packetOf h n) k
-unfolding frameIn frameOf packetOf region markAt
+pub frame-in : (v : FrameTable) → T (within 22 v) → (h : Holding) (n k : ℕ) → k < 10 → frameIn v (h .marks) (h .room) n k ≡ frameOf v (bundleAt h n) k
+unfolding frameIn frameOf bundleAt region markAt
 frame-in v w h n k l =
     let t = getD (h .marks) (10 * n + k) 0 in
     let m : getD (take 10 (drop (10 * n) (h .marks))) k 0 ≡ t = getD-take 10 (drop (10 * n) (h .marks)) k 0 l ∙ getD-drop (10 * n) (h .marks) k 0 in
@@ -268,8 +275,8 @@ frame-in v w h n k l =
     rw (m, q)
 
 -- a packet that is not held has erasures
-pub erased-frame : (v : Vocoder) → T (erases v) → (k : ℕ) → k < 10 → frameOf v erased k ≡ record { type = erasure; body = [] }
-unfolding frameOf erased markAt
+pub erased-frame : (v : FrameTable) → T (erases v) → (k : ℕ) → k < 10 → frameOf v notHeld k ≡ record { type = erasure; body = [] }
+unfolding frameOf notHeld markAt
 erased-frame v z k h =
     let m : getD (replicate {A = ℕ} 10 erasure) k 0 ≡ erasure = getD-replicate 10 k erasure 0 h in
     let e : size v (getD (replicate {A = ℕ} 10 erasure) k 0) ≡ 0 = ap (size v) m ∙ erasure-listed v z .1 in

@@ -3,35 +3,45 @@ use Prim.Native.Nat.{ℕ}
 use mathlib.Core.Path.{_≡_}
 use mathlib.Core.List.{List, [], _∷_}
 use mathlib.Core.Logic.{_⊎_}
-use mathlib.Core.Bool.{true, cond}
-use Rattle.frame.specs.Table.{Vocoder, Frame, erasure}
+use mathlib.Core.Bool.{Bool, true, false, cond}
+use lib.ListN.{take}
+use Rattle.octets.specs.Octets.{region}
+use Rattle.frame.specs.FrameTable.{FrameTable, Frame, size, erasure}
 use Rattle.frame.specs.Places.{frameAt, upTo}
-use Rattle.holding.specs.Group.{Shaped, heldAt, holds}
-use Rattle.pouring.specs.Pouring.{frameIn}
+use Rattle.holding.specs.Group.{Shaped, heldAt, bundleAt, holds}
+use Rattle.bundle.specs.Bundles.{markAt}
+use Rattle.bundle.specs.declared.Bundle.{Bundle}
 use Rattle.holding.specs.declared.Holding.{Holding}
 
 -- "holdings as Groups defines them, .. each holding at least one packet"
-pub record Box (v : Vocoder) (h : Holding) : Type 0 where
+pub record Box (v : FrameTable) (h : Holding) : Type 0 where
   pub shaped : Shaped h
   pub some : holds v h ≡ true
 
--- what is known of a packet: its frames, or that it was not heard
-pub data Known : Type 0 where
-  heard : List Frame → Known
-  lost : Known
+-- frame k of a packet: its type, and as much of its room, one "of 22 octets", as that type takes
+unfoldable pub frameOf : FrameTable → Bundle → ℕ → Frame
+frameOf v p k = record { type = markAt p k; body = take (size v (markAt p k)) (region (p .room) 22 k) }
 
--- the frames of packet n
-unfoldable pub framesHeard : Vocoder → Holding → ℕ → List Frame
-framesHeard v h n = upTo (frameIn v (h .marks) (h .room) n) (h .b)
+-- "equal knowledge": what is known of a packet is one value, whether it is held and its frames
+pub record Known : Type 0 where
+  pub held : Bool
+  pub frames : List Frame
+
+-- what is known of a packet that is not held: no frame
+abbrev pub unheard : Known
+unheard = record { held = false; frames = [] }
+
+-- what is known of a packet of b frames: "which packets are held, and the frames"
+unfoldable pub told : FrameTable → ℕ → Bool → Bundle → Known
+told v b held p = cond held (record { held = true; frames = upTo (frameOf v p) b }) unheard
 
 -- what a holding knows of packet n
-unfoldable pub knownOf : Vocoder → Holding → ℕ → Known
-knownOf v h n = cond (heldAt h n) (heard (framesHeard v h n)) lost
+unfoldable pub knownOf : FrameTable → Holding → ℕ → Known
+knownOf v h n = told v (h .b) (heldAt h n) (bundleAt h n)
 
--- frame k of what is known of a packet: the frame that was heard, or an erasure
+-- frame k of what is known of a packet: "a place not held reads as an erasure"
 abbrev pub frameKnown : Known → ℕ → Frame
-frameKnown (heard fs) k = frameAt fs k
-frameKnown lost k = record { type = erasure; body = [] }
+frameKnown w k = cond (w .held) (frameAt (w .frames) k) (record { type = erasure; body = [] })
 
 -- one of these holdings
 abbrev pub Among : Holding → List Holding → Type 0

@@ -1,58 +1,56 @@
 -- What the C calls tell, by what was read. Assumes nothing.
 use Prim.Native.Nat.{ℕ}
-use Prim.Native.Nat.{_≤_, _<_}
 use mathlib.Core.Path.{_≡_, ap, ap₂, _∙_}
 use mathlib.Core.List.{List}
 use mathlib.Core.Path.{refl}
-use lib.ListN.{length}
-use borrow.Author.Tests.{lt-ltb, le-ltb}
-use Rattle.frame.specs.Answers.{numberOf}
-use Rattle.frame.specs.Table.{Vocoder}
+use Rattle.answers.specs.Answers.{numberOf}
+use Rattle.entries.specs.Kind.{Kind}
 use Rattle.frame.specs.Places.{locatedOf}
-use Rattle.frame.specs.declared.Form.{Form}
-use Rattle.frame.specs.declared.Refusal.{Refusal}
+use Rattle.form.specs.Agreed.{tableOf}
+use Rattle.form.specs.declared.Form.{Form}
+use Rattle.answers.specs.declared.Refusal.{Refusal}
 use Rattle.frame.specs.declared.Located.{Located}
 use Rattle.frame.specs.declared.Located.the-variants as located
-use Rattle.frame.proofs.PlaceLaws.{asked-refused}
+use Rattle.frame.proofs.PlacesLaws.{asked-refused}
 use Rattle.payload.specs.Payload.{readAs}
 use Rattle.payload.specs.Shown.{contentsOf, givenAs}
 use Rattle.payload.specs.declared.Contents.{Contents}
 use Rattle.payload.specs.declared.Contents.the-variants as contents
-use Rattle.frame.specs.Outputs.{Made, Writes}
-use Rattle.frame.specs.declared.Written.{Written}
-use Rattle.frame.specs.declared.Written.the-variants as written
-use Rattle.recording.specs.declared.Counted.{Counted}
-use Rattle.recording.specs.declared.Counted.the-variants as counted
-use Rattle.capture.specs.Run.{recorded, outputOf}
+use Rattle.answers.specs.Outputs.{Made, Writes, writtenOf}
+use Rattle.answers.specs.declared.Written.{Written}
+use Rattle.answers.specs.declared.Written.the-variants as written
+use Rattle.entries.specs.declared.Counted.{Counted}
+use Rattle.entries.specs.declared.Counted.the-variants as counted
+use Rattle.capture.specs.Run.{recordAnswer, recordOutput}
 use Rattle.capture.specs.declared.Outcome.{Outcome}
 use Rattle.capture.specs.declared.Outcome.the-variants as outcome
-use Rattle.frame.specs.Outputs.{writtenOf}
-use Rattle.frame.specs.declared.Refusal.the-variants.{NoRoom}
-use Rattle.holding.specs.declared.Answer.{Answer}
-use Rattle.holding.specs.declared.Answer.the-variants as answer
+use Rattle.answers.specs.declared.Answer.{Answer}
+use Rattle.answers.specs.declared.Answer.the-variants as answer
 use Rattle.session.specs.declared.Taken.{Taken}
 use Rattle.session.specs.declared.Taken.the-variants as taken
-use Rattle.lending.specs.Calls.{isShort, openAnswer, openOctets, pourOctets}
-use Rattle.landing.specs.Host.{readNamed, givenNamed, packetTold, packetAfter, placeTold, placeAfter, countTold, countAfter, writtenAfter, withOutput, writeTold, writeAfter, outcomeAfter, recordAfter, answerNumber, takenAfter, openNamed, openedNamed}
+use Rattle.lending.specs.Calls.{openAnswer, openOctets, pourOctets}
+use Rattle.landing.specs.Host.{readNamed, givenNamed, packetTold, packetAfter, placeTold, placeAfter, countTold, countAfter}
+use Rattle.landing.specs.Host.{writtenAfter, withOutput, writeTold, writeAfter, outcomeAfter, recordAfter, answerNumber, takenAfter}
+use Rattle.landing.specs.Host.{openNamed, openedNamed}
 use Rattle.landing.specs.declared.Named.{Named}
 use Rattle.landing.specs.declared.Named.the-variants.{Agreed, Refused}
 
 -- the form that a host named is none, or is one
-module _ (v : Vocoder) (p : List ℕ) (w : Named) (r : Refusal) (e : w ≡ Refused r) where
-  pub read-refused : contents.Refused r ≡ contentsOf (readNamed v w p)
+module _ (p : List ℕ) (w : Named) (r : Refusal) (e : w ≡ Refused r) where
+  pub read-refused : contents.Refused r ≡ contentsOf (readNamed w p)
   unfolding readNamed contentsOf
   read-refused = rw e
 
-  pub given-refused : (k : ℕ) → located.Refused r ≡ locatedOf (givenNamed v w p) k
+  pub given-refused : (k : ℕ) → located.Refused r ≡ locatedOf (givenNamed w p) k
   unfolding givenNamed
   given-refused k = rw e (asked-refused r k)
 
-module _ (v : Vocoder) (p : List ℕ) (w : Named) (f : Form) (e : w ≡ Agreed f) where
-  pub read-agreed : contentsOf (readAs v f p) ≡ contentsOf (readNamed v w p)
+module _ (p : List ℕ) (w : Named) (f : Form) (e : w ≡ Agreed f) where
+  pub read-agreed : contentsOf (readAs (tableOf f) f p) ≡ contentsOf (readNamed w p)
   unfolding readNamed
   read-agreed = rw e
 
-  pub given-agreed : (k : ℕ) → locatedOf (givenAs v f p) k ≡ locatedOf (givenNamed v w p) k
+  pub given-agreed : (k : ℕ) → locatedOf (givenAs (tableOf f) f p) k ≡ locatedOf (givenNamed w p) k
   unfolding givenNamed
   given-agreed k = rw e
 
@@ -92,7 +90,11 @@ pub written-octets : (w : Written) (n n₀ : ℕ) → w ≡ written.Octets n →
 unfolding writtenAfter
 written-octets w n n₀ e = rw e
 
-pub write-told : (made : Made) (before : List ℕ) (w : Written) (after : List ℕ) (a n n₀ : ℕ) → Writes made before w after → countTold a n ≡ writtenAfter w n₀ → writeTold a n after ≡ writeAfter made n₀ before
+pub write-told :
+    (made : Made) (before : List ℕ) (w : Written) (after : List ℕ) (a n n₀ : ℕ) →
+    Writes made before w after →
+    countTold a n ≡ writtenAfter w n₀ →
+    writeTold a n after ≡ writeAfter made n₀ before
 unfolding writeAfter
 write-told made before w after a n n₀ x e =
     ap₂ withOutput (e ∙ ap (λ (y : Written). writtenAfter y n₀) (x .answer)) (x .output)
@@ -106,9 +108,13 @@ pub capture-recorded : (o : Outcome) (w : Written) (a n n₀ : ℕ) → o ≡ ou
 unfolding outcomeAfter
 capture-recorded o w a n n₀ e q = rw e q
 
-pub capture-told : (v : Vocoder) (opening c before after : List ℕ) (o : Outcome) (a n n₀ : ℕ) → (o ≡ recorded v opening c before) × (after ≡ outputOf v opening c before) → countTold a n ≡ outcomeAfter o n₀ → writeTold a n after ≡ recordAfter v opening c n₀ before
+pub capture-told :
+    (kind : Kind) (c before after : List ℕ) (o : Outcome) (a n n₀ : ℕ) →
+    (o ≡ recordAnswer kind c before) × (after ≡ recordOutput kind c before) →
+    countTold a n ≡ outcomeAfter o n₀ →
+    writeTold a n after ≡ recordAfter kind c n₀ before
 unfolding recordAfter
-capture-told v opening c before after o a n n₀ x e = ap₂ withOutput (e ∙ ap (λ (y : Outcome). outcomeAfter y n₀) (x .0)) (x .1)
+capture-told kind c before after o a n n₀ x e = ap₂ withOutput (e ∙ ap (λ (y : Outcome). outcomeAfter y n₀) (x .0)) (x .1)
 
 -- what is told of a call that gives no number
 pub answer-done : (a : Answer) → a ≡ answer.Done → 0 ≡ answerNumber a
@@ -141,14 +147,14 @@ pour-on made o o′ before after w a n n₀ x e = (write-told made before w afte
 
 -- opening in a named form
 module _ (named : Named) (source : ℕ) (o : List ℕ) where
-  pub open-agreed : (g : Form) (a : Answer) (after : List ℕ) → named ≡ Agreed g → (a ≡ openAnswer o source g) × (after ≡ openOctets o source g) → (a ≡ openNamed named source o) × (after ≡ openedNamed named source o)
+  pub open-agreed :
+      (g : Form) (a : Answer) (after : List ℕ) →
+      named ≡ Agreed g →
+      (a ≡ openAnswer o source g) × (after ≡ openOctets o source g) →
+      (a ≡ openNamed named source o) × (after ≡ openedNamed named source o)
   unfolding openNamed openedNamed
   open-agreed g a after e x = rw e x
 
-  pub open-short : (r : Refusal) → named ≡ Refused r → length o < 2048 → (answer.Refused NoRoom ≡ openNamed named source o) × (o ≡ openedNamed named source o)
-  unfolding openNamed openedNamed isShort
-  open-short r e h = rw e (simp (lt-ltb _ _ h), refl)
-
-  pub open-unnamed : (r : Refusal) → named ≡ Refused r → 2048 ≤ length o → (answer.Refused r ≡ openNamed named source o) × (o ≡ openedNamed named source o)
-  unfolding openNamed openedNamed isShort
-  open-unnamed r e h = rw e (simp (le-ltb _ _ h), refl)
+  pub open-unnamed : (r : Refusal) → named ≡ Refused r → (answer.Refused r ≡ openNamed named source o) × (o ≡ openedNamed named source o)
+  unfolding openNamed openedNamed
+  open-unnamed r e = rw e (refl, refl)

@@ -3,12 +3,13 @@ use Prim.Native.Nat.{ℕ}
 use mathlib.Core.List.{List}
 use mathlib.Core.Bool.{cond}
 use lib.Dec.{eqb}
-use Rattle.frame.specs.Answers.{numberOf}
-use Rattle.frame.specs.Table.{Vocoder}
+use Rattle.answers.specs.Answers.{numberOf}
+use Rattle.entries.specs.Kind.{Kind, kindOf}
 use Rattle.frame.specs.Places.{Given}
 use Rattle.frame.specs.Places as places
-use Rattle.frame.specs.declared.Form.the-variants.{HeaderFree, Interleaved}
-use Rattle.frame.specs.declared.Refusal.the-variants.{NotApplicable, NoRoom}
+use Rattle.form.specs.Agreed.{vocoderOf, tableOf}
+use Rattle.form.specs.declared.Form.the-variants.{HeaderFree, Interleaved}
+use Rattle.answers.specs.declared.Refusal.the-variants.{NotApplicable}
 use Rattle.frame.specs.declared.Located.{Located}
 use Rattle.frame.specs.declared.Located.the-variants as located
 use Rattle.payload.specs.Payload.{Reading, readAs}
@@ -16,21 +17,21 @@ use Rattle.payload.specs.Payload as payload
 use Rattle.payload.specs.Shown.{givenAs}
 use Rattle.payload.specs.declared.Contents.{Contents}
 use Rattle.payload.specs.declared.Contents.the-variants as contents
-use Rattle.frame.specs.Outputs.{Made, writtenOf, outAfter}
-use Rattle.frame.specs.Outputs as outputs
+use Rattle.answers.specs.Outputs.{Made, writtenOf, outAfter}
+use Rattle.answers.specs.Outputs as outputs
 use Rattle.packet.specs.Writing.{packetMade, headerFreeMade}
-use Rattle.frame.specs.declared.Written.{Written}
-use Rattle.frame.specs.declared.Written.the-variants as written
-use Rattle.recording.specs.declared.Counted.{Counted}
-use Rattle.recording.specs.declared.Counted.the-variants as counted
-use Rattle.capture.specs.Run.{recorded, outputOf}
+use Rattle.answers.specs.declared.Written.{Written}
+use Rattle.answers.specs.declared.Written.the-variants as written
+use Rattle.entries.specs.declared.Counted.{Counted}
+use Rattle.entries.specs.declared.Counted.the-variants as counted
+use Rattle.capture.specs.Run.{recordAnswer, recordOutput}
 use Rattle.capture.specs.declared.Outcome.{Outcome}
 use Rattle.capture.specs.declared.Outcome.the-variants as outcome
-use Rattle.holding.specs.declared.Answer.{Answer}
-use Rattle.holding.specs.declared.Answer.the-variants as answer
+use Rattle.answers.specs.declared.Answer.{Answer}
+use Rattle.answers.specs.declared.Answer.the-variants as answer
 use Rattle.session.specs.declared.Taken.{Taken}
 use Rattle.session.specs.declared.Taken.the-variants as taken
-use Rattle.lending.specs.Calls.{isShort, openAnswer, openOctets}
+use Rattle.lending.specs.Calls.{openAnswer, openOctets}
 use Rattle.landing.specs.declared.Named.{Named}
 use Rattle.landing.specs.declared.Named.the-variants.{Agreed, Refused}
 
@@ -41,24 +42,24 @@ namedForm f l b =
     (cond (eqb f 1) (Agreed (Interleaved (record { «max_l» = l; «max_b» = b }))) (Refused NotApplicable))
 
 -- a payload read in the form that the host names
-unfoldable pub readNamed : Vocoder → Named → List ℕ → Reading
-readNamed v (Agreed f) p = readAs v f p
-readNamed v (Refused r) p = payload.refused r
+unfoldable pub readNamed : Named → List ℕ → Reading
+readNamed (Agreed f) p = readAs (tableOf f) f p
+readNamed (Refused r) p = payload.refusedPayload r
 
 -- and what it gives
-unfoldable pub givenNamed : Vocoder → Named → List ℕ → Given
-givenNamed v (Agreed f) p = givenAs v f p
-givenNamed v (Refused r) p = places.refused r
+unfoldable pub givenNamed : Named → List ℕ → Given
+givenNamed (Agreed f) p = givenAs (tableOf f) f p
+givenNamed (Refused r) p = places.refusedFrames r
 
 -- what the writers make in the form that the host names
-unfoldable pub packetNamed : Vocoder → Named → ℕ → ℕ → ℕ → ℕ → List ℕ → Made
-packetNamed v (Agreed f) l n b d es = packetMade v f l n b d es
-packetNamed v (Refused r) l n b d es = outputs.refused r
+unfoldable pub packetNamed : Named → ℕ → ℕ → ℕ → ℕ → List ℕ → Made
+packetNamed (Agreed f) l n b d es = packetMade (kindOf (vocoderOf f)) f l n b d es
+packetNamed (Refused r) l n b d es = outputs.refusedOutput r
 
 -- the same of the header-free writer
-unfoldable pub headerFreeNamed : Vocoder → Named → List ℕ → Made
-headerFreeNamed v (Agreed f) es = headerFreeMade v f es
-headerFreeNamed v (Refused r) es = outputs.refused r
+unfoldable pub headerFreeNamed : Named → List ℕ → Made
+headerFreeNamed (Agreed f) es = headerFreeMade (kindOf (vocoderOf f)) f es
+headerFreeNamed (Refused r) es = outputs.refusedOutput r
 
 -- what a host sees of a payload: the answer, and its four numbers L, N, B and D
 pub data PacketTold : Type 0 where
@@ -110,8 +111,8 @@ outcomeAfter outcome.BadCapture n₀ = countTold 255 n₀
 outcomeAfter (outcome.Recorded w) n₀ = writtenAfter w n₀
 
 -- after a capture was recorded
-unfoldable pub recordAfter : Vocoder → List ℕ → List ℕ → ℕ → List ℕ → WriteTold
-recordAfter v opening c n₀ out = withOutput (outcomeAfter (recorded v opening c out) n₀) (outputOf v opening c out)
+unfoldable pub recordAfter : Kind → List ℕ → ℕ → List ℕ → WriteTold
+recordAfter kind c n₀ out = withOutput (outcomeAfter (recordAnswer kind c out) n₀) (recordOutput kind c out)
 
 -- what a host sees of a call that gives no number
 unfoldable pub answerNumber : Answer → ℕ
@@ -123,10 +124,10 @@ unfoldable pub takenAfter : Taken → ℕ → CountTold
 takenAfter (taken.Accepted n) n₀ = countTold 0 n
 takenAfter (taken.Refused r) n₀ = countTold (numberOf r) n₀
 
--- a session opened in the form that the host names: 15 before 21
+-- a session opened in the form that the host names: 21 for none, before 15
 unfoldable pub openNamed : Named → ℕ → List ℕ → Answer
 openNamed (Agreed f) source o = openAnswer o source f
-openNamed (Refused r) source o = cond (isShort o) (answer.Refused NoRoom) (answer.Refused r)
+openNamed (Refused r) source o = answer.Refused r
 
 -- the session's octets after it
 unfoldable pub openedNamed : Named → ℕ → List ℕ → List ℕ

@@ -1,45 +1,31 @@
 // The calls for a host in C (include/landing_voice.h): numbers and byte slices in, 0 or a refusal's number out.
+use answers::Answer;
+use answers::Refusal;
+use answers::Written;
 use capture::Outcome;
-use frame::Form;
-use frame::Limits;
+use entries::Counted;
+use form::Form;
+use form::Limits;
 use frame::Located;
-use frame::Refusal;
-use frame::Written;
-use holding::Answer;
+use frame::Vocoder;
 use payload::Contents;
-use recording::Counted;
 use session::Taken;
 ghost use mathlib.Core.Path.{_≡_};
-ghost use Rattle.frame.specs.Table.{evrc};
+ghost use Rattle.answers.specs.Outputs.{Writes, writtenOf};
+ghost use Rattle.entries.specs.Counting.{countedOf};
+ghost use Rattle.entries.specs.Kind.{kindOf};
 ghost use Rattle.frame.specs.Places.{locatedOf};
-ghost use Rattle.frame.specs.Outputs.{Writes, writtenOf};
+ghost use Rattle.lending.specs.Laid.{sessionTable, holdingTable};
+ghost use Rattle.capture.specs.Run.{captureKind};
+ghost use Rattle.lending.specs.Calls.{offerAnswer, offerOctets, pourOf, pourOctets, copyAnswer, copyOctets, endAnswer, endOctets};
+ghost use Rattle.lending.specs.Calls.{joinAnswer, joinOctets, pourHeld};
 ghost use Rattle.payload.specs.Shown.{contentsOf};
-ghost use Rattle.recording.specs.Recording.{evrcOpening, recorded, recordingMade};
-ghost use Rattle.recording.specs.Shown.{countedOf, givenIn};
-ghost use Rattle.landing.specs.Host.{
-  namedForm,
-  readNamed,
-  givenNamed,
-  packetTold,
-  packetAfter,
-  placeTold,
-  placeAfter,
-  countTold,
-  countAfter,
-  writtenAfter,
-  writeTold,
-  writeAfter,
-  packetNamed,
-  headerFreeNamed,
-  outcomeAfter,
-  recordAfter,
-  answerNumber,
-  takenAfter,
-  openNamed,
-  openedNamed,
-};
-ghost use Rattle.lending.specs.Calls.{offerAnswer, offerOctets, pourOf, pourOctets, copyAnswer, copyOctets, endAnswer};
-ghost use Rattle.lending.specs.Calls.{endOctets, joinAnswer, joinOctets, pourHeld};
+ghost use Rattle.recording.specs.Recording.{recordingRead, recordingMade};
+ghost use Rattle.recording.specs.Shown.{givenIn};
+ghost use Rattle.landing.specs.Host.{namedForm, readNamed, givenNamed, packetTold, packetAfter, placeTold, placeAfter};
+ghost use Rattle.landing.specs.Host.{countTold, countAfter, writtenAfter, writeTold, writeAfter, packetNamed};
+ghost use Rattle.landing.specs.Host.{headerFreeNamed, outcomeAfter, recordAfter, answerNumber, takenAfter, openNamed};
+ghost use Rattle.landing.specs.Host.{openedNamed};
 
 // The agreed form that a host names by a number and two maxima, or the refusal.
 pub enum Named {
@@ -60,7 +46,7 @@ fn form_named(form: u8, max_l: u8, max_b: u8) -> Named
 
 // A payload read in the form that is named; 21 if none is.
 fn read_named(form: u8, max_l: u8, max_b: u8, payload: &[u8]) -> Contents
-    ensures { λ r. ⌜ r ≡ contentsOf (readNamed evrc (namedForm form «max_l» «max_b») (now (payload .entry))) ⌝ }
+    ensures { λ r. ⌜ r ≡ contentsOf (readNamed (namedForm form «max_l» «max_b») (now (payload .entry))) ⌝ }
 {
     let named = form_named(form, max_l, max_b);
     match named {
@@ -71,7 +57,7 @@ fn read_named(form: u8, max_l: u8, max_b: u8, payload: &[u8]) -> Contents
 
 // Frame k of a payload in the form that is named; 21 if none is.
 fn locate_named(form: u8, max_l: u8, max_b: u8, payload: &[u8], k: usize) -> Located
-    ensures { λ r. ⌜ r ≡ locatedOf (givenNamed evrc (namedForm form «max_l» «max_b») (now (payload .entry))) k ⌝ }
+    ensures { λ r. ⌜ r ≡ locatedOf (givenNamed (namedForm form «max_l» «max_b») (now (payload .entry))) k ⌝ }
 {
     let named = form_named(form, max_l, max_b);
     match named {
@@ -93,7 +79,7 @@ pub extern "C" fn lv_payload_read(
     d: &mut u8,
 ) -> u8
     ensures { λ r. ⌜ packetTold r (now (l .exit)) (now (n .exit)) (now (b .exit)) (now (d .exit))
-        ≡ packetAfter (contentsOf (readNamed evrc (namedForm form «max_l» «max_b») (now (payload .entry)))) (now (l .entry)) (now (n .entry)) (now (b .entry)) (now (d .entry)) ⌝ }
+        ≡ packetAfter (contentsOf (readNamed (namedForm form «max_l» «max_b») (now (payload .entry)))) (now (l .entry)) (now (n .entry)) (now (b .entry)) (now (d .entry)) ⌝ }
 {
     let held = read_named(form, max_l, max_b, payload);
     match held {
@@ -146,7 +132,7 @@ pub extern "C" fn lv_payload_frame(
     size: &mut usize,
 ) -> u8
     ensures { λ r. ⌜ placeTold r (now (kind .exit)) (now (start .exit)) (now (size .exit))
-        ≡ placeAfter (locatedOf (givenNamed evrc (namedForm form «max_l» «max_b») (now (payload .entry))) k) (now (kind .entry)) (now (start .entry)) (now (size .entry)) ⌝ }
+        ≡ placeAfter (locatedOf (givenNamed (namedForm form «max_l» «max_b») (now (payload .entry))) k) (now (kind .entry)) (now (start .entry)) (now (size .entry)) ⌝ }
 {
     tell_place(
         locate_named(form, max_l, max_b, payload, k),
@@ -160,9 +146,9 @@ pub extern "C" fn lv_payload_frame(
 #[no_mangle]
 pub extern "C" fn lv_recording_read(recording: &[u8], count: &mut usize) -> u8
     ensures { λ r. ⌜ countTold r (now (count .exit))
-        ≡ countAfter (countedOf (recorded evrc evrcOpening (now (recording .entry)))) (now (count .entry)) ⌝ }
+        ≡ countAfter (countedOf (recordingRead (kindOf Vocoder.Evrc) (now (recording .entry)))) (now (count .entry)) ⌝ }
 {
-    let held = recording::read(recording);
+    let held = recording::read(Vocoder::Evrc, recording);
     match held {
         Counted::Refused(r) => r.number(),
         Counted::Frames(n) => {
@@ -182,9 +168,10 @@ pub extern "C" fn lv_recording_frame(
     size: &mut usize,
 ) -> u8
     ensures { λ r. ⌜ placeTold r (now (kind .exit)) (now (start .exit)) (now (size .exit))
-        ≡ placeAfter (locatedOf (givenIn evrc evrcOpening (now (recording .entry))) k) (now (kind .entry)) (now (start .entry)) (now (size .entry)) ⌝ }
+        ≡ placeAfter (locatedOf (givenIn (kindOf Vocoder.Evrc) (now (recording .entry))) k) (now (kind .entry)) (now (start .entry)) (now (size .entry)) ⌝ }
 {
-    tell_place(recording::locate(recording, k), kind, start, size)
+    let place = recording::locate(Vocoder::Evrc, recording, k);
+    tell_place(place, kind, start, size)
 }
 
 // Tells a host what was written: 0 and the octet count; or the refusal's number, and nothing written.
@@ -204,9 +191,9 @@ fn tell_written(made: Written, written: &mut usize) -> u8
 #[no_mangle]
 pub extern "C" fn lv_recording_write(entries: &[u8], out: &mut [u8], written: &mut usize) -> u8
     ensures { λ r. ⌜ writeTold r (now (written .exit)) (now (out .exit))
-        ≡ writeAfter (recordingMade evrc evrcOpening (now (entries .entry))) (now (written .entry)) (now (out .entry)) ⌝ }
+        ≡ writeAfter (recordingMade (kindOf Vocoder.Evrc) (now (entries .entry))) (now (written .entry)) (now (out .entry)) ⌝ }
 {
-    tell_written(recording::write(entries, out), written)
+    tell_written(recording::write(Vocoder::Evrc, entries, out), written)
 }
 
 // Packet N written in the form that is named; 21 if none is.
@@ -221,7 +208,7 @@ fn packet_named(
     entries: &[u8],
     out: &mut [u8],
 ) -> Written
-    ensures { λ r. ⌜ Writes (packetNamed evrc (namedForm form «max_l» «max_b») l n b d (now (entries .entry))) (now (out .entry)) r (now (out .exit)) ⌝ }
+    ensures { λ r. ⌜ Writes (packetNamed (namedForm form «max_l» «max_b») l n b d (now (entries .entry))) (now (out .entry)) r (now (out .exit)) ⌝ }
 {
     let named = form_named(form, max_l, max_b);
     match named {
@@ -245,7 +232,7 @@ pub extern "C" fn lv_packet_write(
     written: &mut usize,
 ) -> u8
     ensures { λ r. ⌜ writeTold r (now (written .exit)) (now (out .exit))
-        ≡ writeAfter (packetNamed evrc (namedForm form «max_l» «max_b») l n b d (now (entries .entry))) (now (written .entry)) (now (out .entry)) ⌝ }
+        ≡ writeAfter (packetNamed (namedForm form «max_l» «max_b») l n b d (now (entries .entry))) (now (written .entry)) (now (out .entry)) ⌝ }
 {
     tell_written(
         packet_named(form, max_l, max_b, l, n, b, d, entries, out),
@@ -255,7 +242,7 @@ pub extern "C" fn lv_packet_write(
 
 // A header-free packet written in the form that is named; 21 if none is.
 fn header_free_named(form: u8, max_l: u8, max_b: u8, entries: &[u8], out: &mut [u8]) -> Written
-    ensures { λ r. ⌜ Writes (headerFreeNamed evrc (namedForm form «max_l» «max_b») (now (entries .entry))) (now (out .entry)) r (now (out .exit)) ⌝ }
+    ensures { λ r. ⌜ Writes (headerFreeNamed (namedForm form «max_l» «max_b») (now (entries .entry))) (now (out .entry)) r (now (out .exit)) ⌝ }
 {
     let named = form_named(form, max_l, max_b);
     match named {
@@ -275,7 +262,7 @@ pub extern "C" fn lv_packet_write_header_free(
     written: &mut usize,
 ) -> u8
     ensures { λ r. ⌜ writeTold r (now (written .exit)) (now (out .exit))
-        ≡ writeAfter (headerFreeNamed evrc (namedForm form «max_l» «max_b») (now (entries .entry))) (now (written .entry)) (now (out .entry)) ⌝ }
+        ≡ writeAfter (headerFreeNamed (namedForm form «max_l» «max_b») (now (entries .entry))) (now (written .entry)) (now (out .entry)) ⌝ }
 {
     tell_written(header_free_named(form, max_l, max_b, entries, out), written)
 }
@@ -294,7 +281,7 @@ fn tell_recorded(outcome: Outcome, written: &mut usize) -> u8
 #[no_mangle]
 pub extern "C" fn lv_capture_record(capture: &[u8], out: &mut [u8], written: &mut usize) -> u8
     ensures { λ r. ⌜ writeTold r (now (written .exit)) (now (out .exit))
-        ≡ recordAfter evrc evrcOpening (now (capture .entry)) (now (written .entry)) (now (out .entry)) ⌝ }
+        ≡ recordAfter captureKind (now (capture .entry)) (now (written .entry)) (now (out .entry)) ⌝ }
 {
     tell_recorded(capture::record(capture, out), written)
 }
@@ -324,7 +311,7 @@ fn tell_taken(answer: Taken, lost: &mut usize) -> u8
     }
 }
 
-// A lent session opened in the form that is named: 15 for too few octets, then 21 for no form.
+// A lent session opened in the form that is named: 21 for no form, before 15 for too few octets.
 fn open_named(source: u32, form: u8, max_l: u8, max_b: u8, session: &mut [u8]) -> Answer
     ensures { λ r. ⌜ (r ≡ openNamed (namedForm form «max_l» «max_b») source (now (session .entry)))
         × (now (session .exit) ≡ openedNamed (namedForm form «max_l» «max_b») source (now (session .entry))) ⌝ }
@@ -332,12 +319,7 @@ fn open_named(source: u32, form: u8, max_l: u8, max_b: u8, session: &mut [u8]) -
     let named = form_named(form, max_l, max_b);
     match named {
         Named::Agreed(agreed) => lending::open(session, source, agreed),
-        Named::Refused(reason) => {
-            if session.len() < lending::OCTETS {
-                return Answer::Refused(Refusal::NoRoom);
-            }
-            Answer::Refused(reason)
-        }
+        Named::Refused(reason) => Answer::Refused(reason),
     }
 }
 
@@ -367,8 +349,8 @@ pub extern "C" fn lv_session_offer(
     lost: &mut usize,
 ) -> u8
     ensures { λ r. ⌜ (countTold r (now (lost .exit))
-        ≡ takenAfter (offerAnswer evrc (now (session .entry)) source sequence timestamp (now (payload .entry))) (now (lost .entry)))
-        × (now (session .exit) ≡ offerOctets evrc (now (session .entry)) source sequence timestamp (now (payload .entry))) ⌝ }
+        ≡ takenAfter (offerAnswer (sessionTable (now (session .entry))) (now (session .entry)) source sequence timestamp (now (payload .entry))) (now (lost .entry)))
+        × (now (session .exit) ≡ offerOctets (sessionTable (now (session .entry))) (now (session .entry)) source sequence timestamp (now (payload .entry))) ⌝ }
 {
     tell_taken(
         lending::offer(session, source, sequence, timestamp, payload),
@@ -380,9 +362,9 @@ pub extern "C" fn lv_session_offer(
 #[no_mangle]
 pub extern "C" fn lv_session_pour(session: &mut [u8], out: &mut [u8], written: &mut usize) -> u8
     ensures { λ r. ⌜ (writeTold r (now (written .exit)) (now (out .exit))
-        ≡ writeAfter (pourOf evrc (now (session .entry))) (now (written .entry)) (now (out .entry)))
+        ≡ writeAfter (pourOf (sessionTable (now (session .entry))) (now (session .entry))) (now (written .entry)) (now (out .entry)))
         × (now (session .exit)
-        ≡ pourOctets (now (session .entry)) (writtenOf (pourOf evrc (now (session .entry))) (now (out .entry)))) ⌝ }
+        ≡ pourOctets (now (session .entry)) (writtenOf (pourOf (sessionTable (now (session .entry))) (now (session .entry))) (now (out .entry)))) ⌝ }
 {
     tell_written(lending::pour(session, out), written)
 }
@@ -390,8 +372,8 @@ pub extern "C" fn lv_session_pour(session: &mut [u8], out: &mut [u8], written: &
 // Copies the held group of a session out.
 #[no_mangle]
 pub extern "C" fn lv_session_copy(session: &[u8], holding: &mut [u8]) -> u8
-    ensures { λ r. ⌜ (r ≡ answerNumber (copyAnswer evrc (now (session .entry)) (now (holding .entry))))
-        × (now (holding .exit) ≡ copyOctets evrc (now (session .entry)) (now (holding .entry))) ⌝ }
+    ensures { λ r. ⌜ (r ≡ answerNumber (copyAnswer (sessionTable (now (session .entry))) (now (session .entry)) (now (holding .entry))))
+        × (now (holding .exit) ≡ copyOctets (sessionTable (now (session .entry))) (now (session .entry)) (now (holding .entry))) ⌝ }
 {
     tell(lending::copy_out(session, holding))
 }
@@ -408,8 +390,8 @@ pub extern "C" fn lv_session_end(session: &mut [u8]) -> u8
 // Joins two holdings.
 #[no_mangle]
 pub extern "C" fn lv_holding_join(a: &[u8], b: &[u8], out: &mut [u8]) -> u8
-    ensures { λ r. ⌜ (r ≡ answerNumber (joinAnswer evrc (now (a .entry)) (now (b .entry)) (now (out .entry))))
-        × (now (out .exit) ≡ joinOctets evrc (now (a .entry)) (now (b .entry)) (now (out .entry))) ⌝ }
+    ensures { λ r. ⌜ (r ≡ answerNumber (joinAnswer (holdingTable (now (a .entry))) (now (a .entry)) (now (b .entry)) (now (out .entry))))
+        × (now (out .exit) ≡ joinOctets (holdingTable (now (a .entry))) (now (a .entry)) (now (b .entry)) (now (out .entry))) ⌝ }
 {
     tell(lending::join(a, b, out))
 }
@@ -418,7 +400,7 @@ pub extern "C" fn lv_holding_join(a: &[u8], b: &[u8], out: &mut [u8]) -> u8
 #[no_mangle]
 pub extern "C" fn lv_holding_pour(holding: &[u8], out: &mut [u8], written: &mut usize) -> u8
     ensures { λ r. ⌜ writeTold r (now (written .exit)) (now (out .exit))
-        ≡ writeAfter (pourHeld evrc (now (holding .entry))) (now (written .entry)) (now (out .entry)) ⌝ }
+        ≡ writeAfter (pourHeld (holdingTable (now (holding .entry))) (now (holding .entry))) (now (written .entry)) (now (out .entry)) ⌝ }
 {
     tell_written(lending::pour_holding(holding, out), written)
 }

@@ -1,3 +1,3 @@
 pub mod Pieces
 pub mod LaidLaws
-pub mod CallLaws
+pub mod CallsLaws

@@ -1,17 +1,19 @@
 -- The pieces that a holding and a session are laid out in, and how long each beginning is. Assumes nothing.
 use Prim.Native.Nat.{ℕ, _+_}
+use mathlib.Core.Bool.{Bool, true, false, cond}
 use mathlib.Core.Path.{_≡_, refl, ap₂, _∙_}
 use mathlib.Core.List.{List, [], _∷_, _++_, map}
 use native.Mathlib.Omega.{arith}
-use lib.ListN.{length, replicate, length-append, length-map}
+use lib.ListN.{length, replicate, length-append, length-map, length-replicate}
 use Rattle.octets.specs.Octets.{shifted, twoOctets, fourOctets}
-use Rattle.octets.proofs.OctetLaws.{length-two, length-four}
-use Rattle.frame.specs.declared.Form.{Form}
-use Rattle.frame.specs.declared.Form.the-variants.{HeaderFree, Interleaved}
+use Rattle.octets.proofs.OctetsLaws.{length-two, length-four}
+use Rattle.form.specs.declared.Form.{Form}
+use Rattle.form.specs.declared.Form.the-variants.{HeaderFree, Interleaved}
 use Rattle.holding.specs.Group.{Shaped}
 use Rattle.holding.specs.declared.Holding.{Holding}
 use Rattle.session.specs.declared.Session.{Session}
-use Rattle.lending.specs.Laid.{flagOctet, numberOctets, frameOctets, holdingOctets, formOctets, sessionHead}
+use Rattle.lending.specs.Laid.{flagOctet, numberOctets, frameOctets, holdingOctets, holdingLaid, formOctets, lastOctets}
+use Rattle.lending.specs.Laid.{sessionHead, sessionLaid}
 
 -- ---- a holding
 module _ (h : Holding) where
@@ -30,6 +32,9 @@ module _ (h : Holding) where
   abbrev pub F : List ℕ
   F = map flagOctet (h .held)
 
+  abbrev pub N : List ℕ
+  N = replicate 8 0
+
   abbrev pub M : List ℕ
   M = map (shifted 242) (h .marks)
 
@@ -39,9 +44,12 @@ module _ (h : Holding) where
   pub length-abc : length (A ++ B ++ C) ≡ 10
   length-abc = length-append (A ++ B) C ∙ ap₂ _+_ length-ab (length-four (h .timestamp))
 
-  pub length-numbers : length (numberOctets h) ≡ 12
+  pub length-abcd : length (A ++ B ++ C ++ D) ≡ 12
+  length-abcd = length-append (A ++ B ++ C) D ∙ omega (arith, length-abc)
+
+  pub length-numbers : length (numberOctets h) ≡ 16
   unfolding numberOctets
-  length-numbers = length-append (A ++ B ++ C) D ∙ omega (arith, length-abc)
+  length-numbers = length-append (A ++ B ++ C ++ D) (replicate 4 0) ∙ omega (arith, length-abcd)
 
   module _ (x : Shaped h) where
     pub length-f : length F ≡ 8
@@ -50,16 +58,23 @@ module _ (h : Holding) where
     pub length-m : length M ≡ 80
     length-m = length-map (h .marks) (shifted 242) ∙ x .long-marks
 
-    pub length-fm : length (F ++ M) ≡ 88
-    length-fm = length-append F M ∙ ap₂ _+_ length-f length-m
+    pub length-fn : length (F ++ N) ≡ 16
+    length-fn = length-append F N ∙ omega (arith, length-f)
 
-    length-frames : length (frameOctets h) ≡ 1848
+    pub length-fnm : length (F ++ N ++ M) ≡ 96
+    length-fnm = length-append (F ++ N) M ∙ ap₂ _+_ length-fn length-m
+
+    length-frames : length (frameOctets h) ≡ 1856
     unfolding frameOctets
-    length-frames = length-append (F ++ M) (h .room) ∙ ap₂ _+_ length-fm (x .long-room)
+    length-frames = length-append (F ++ N ++ M) (h .room) ∙ ap₂ _+_ length-fnm (x .long-room)
 
-    pub length-holding : length (holdingOctets h) ≡ 1860
+    pub length-holding : length (holdingOctets h) ≡ 1872
     unfolding holdingOctets
     length-holding = length-append (numberOctets h) (frameOctets h) ∙ ap₂ _+_ length-numbers length-frames
+
+    pub length-holding-laid : length (holdingLaid h) ≡ 2304
+    unfolding holdingLaid
+    length-holding-laid = length-append (holdingOctets h) (replicate 432 0) ∙ ap₂ _+_ length-holding (length-replicate {A = ℕ} 432 0)
 
 -- ---- a session, but for its group
 pub length-form : (f : Form) → length (formOctets f) ≡ 3
@@ -81,10 +96,7 @@ module _ (s : Session) where
   P = flagOctet (s .poured) ∷ []
 
   abbrev pub Q : List ℕ
-  Q = twoOctets (s .«last_sequence»)
-
-  abbrev pub L : List ℕ
-  L = s .«last_l» ∷ s .«last_b» ∷ []
+  Q = lastOctets s
 
   pub length-og : length (O ++ G) ≡ 4
   length-og = length-append O G ∙ omega (arith, length-form (s .form))
@@ -95,12 +107,25 @@ module _ (s : Session) where
   pub length-ogsp : length (O ++ G ++ S ++ P) ≡ 9
   length-ogsp = length-append (O ++ G ++ S) P ∙ omega (arith, length-ogs)
 
-  pub length-ogspq : length (O ++ G ++ S ++ P ++ Q) ≡ 11
-  length-ogspq = length-append (O ++ G ++ S ++ P) Q ∙ ap₂ _+_ length-ogsp (length-two (s .«last_sequence»))
+  pub length-last : length Q ≡ 4
+  unfolding lastOctets
+  length-last = go (s .poured)
+    where
+      go : (b : Bool) → length (cond b (twoOctets (s .«last_sequence») ++ (s .«last_l» ∷ s .«last_b» ∷ [])) (replicate 4 0)) ≡ 4
+      go true = length-append (twoOctets (s .«last_sequence»)) (s .«last_l» ∷ s .«last_b» ∷ []) ∙ omega (arith, length-two (s .«last_sequence»))
+      go false = refl
 
-  pub length-ogspql : length (O ++ G ++ S ++ P ++ Q ++ L) ≡ 13
-  length-ogspql = length-append (O ++ G ++ S ++ P ++ Q) L ∙ omega (arith, length-ogspq)
+  pub length-ogspq : length (O ++ G ++ S ++ P ++ Q) ≡ 13
+  length-ogspq = length-append (O ++ G ++ S ++ P) Q ∙ ap₂ _+_ length-ogsp length-last
 
-  pub length-head : length (sessionHead s) ≡ 16
+  pub length-head : length (sessionHead s) ≡ 32
   unfolding sessionHead
-  length-head = length-append (O ++ G ++ S ++ P ++ Q ++ L) (replicate 3 0) ∙ omega (arith, length-ogspql)
+  length-head = length-append (O ++ G ++ S ++ P ++ Q) (replicate 19 0) ∙ omega (arith, length-ogspq)
+
+  pub length-grouped : Shaped (s .group) → length (sessionHead s ++ holdingOctets (s .group)) ≡ 1904
+  length-grouped x = length-append (sessionHead s) (holdingOctets (s .group)) ∙ ap₂ _+_ length-head (length-holding (s .group) x)
+
+  pub length-session-laid : Shaped (s .group) → length (sessionLaid s) ≡ 2304
+  unfolding sessionLaid
+  length-session-laid x =
+      length-append (sessionHead s ++ holdingOctets (s .group)) (replicate 400 0) ∙ ap₂ _+_ (length-grouped x) (length-replicate {A = ℕ} 400 0)

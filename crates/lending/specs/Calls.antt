@@ -1,29 +1,32 @@
 -- The calls of document 01, "Session", on sessions and holdings in octets that a host lends.
 use Prim.Native.Nat.{ℕ}
-use mathlib.Core.Bool.{Bool, cond, _||_}
+use mathlib.Core.Bool.{cond}
 use mathlib.Core.List.{List}
-use lib.Dec.{ltb}
-use lib.ListN.{length, replicate}
+use lib.ListN.{replicate}
 use Rattle.octets.specs.Octets.{over}
-use Rattle.frame.specs.Table.{Vocoder}
-use Rattle.frame.specs.Outputs.{Made}
-use Rattle.frame.specs.Outputs as outputs
-use Rattle.frame.specs.declared.Form.{Form}
-use Rattle.frame.specs.declared.Refusal.the-variants.{NoRoom}
-use Rattle.frame.specs.declared.Written.{Written}
-use Rattle.frame.specs.declared.Written.the-variants as written
-use Rattle.holding.specs.declared.Answer.{Answer}
-use Rattle.holding.specs.declared.Answer.the-variants as answer
+use Rattle.frame.specs.FrameTable.{FrameTable}
+use Rattle.answers.specs.Outputs.{Made}
+use Rattle.form.specs.declared.Form.{Form}
+use Rattle.answers.specs.declared.Refusal.the-variants.{NoRoom}
+use Rattle.answers.specs.declared.Written.{Written}
+use Rattle.answers.specs.declared.Written.the-variants as written
+use Rattle.answers.specs.declared.Answer.{Answer}
+use Rattle.answers.specs.declared.Answer.the-variants as answer
 use Rattle.joining.specs.Joining.{joinOf}
 use Rattle.pouring.specs.Pouring.{poured}
-use Rattle.session.specs.Session.{never, opening, offered, pourMade, ended, copied}
+use Rattle.session.specs.Session.{neverOpened, openedFor, offered, pourMade, ended, copied}
 use Rattle.session.specs.declared.Taken.{Taken}
 use Rattle.session.specs.declared.Taken.the-variants as taken
-use Rattle.lending.specs.Laid.{holdingIn, holdingLaid, sessionIn, sessionLaid}
+use Rattle.lending.specs.Laid.{isLong, holdingIn, holdingLaid, sessionIn, sessionLaid}
 
--- "a shorter buffer answers 15"
-unfoldable pub isShort : List ℕ → Bool
-isShort o = ltb (length o) 2048
+-- "output shorter than the answer needs": 15
+unfoldable pub roomIn : List ℕ → Answer
+roomIn out = cond (isLong out) answer.Done (answer.Refused NoRoom)
+
+-- it "always comes last": a refusal, or the room for what was done
+unfoldable pub thenRoom : Answer → List ℕ → Answer
+thenRoom answer.Done out = roomIn out
+thenRoom (answer.Refused r) out = answer.Refused r
 
 -- a call that was done lays out what it gives; a refused one "changes nothing lent"
 unfoldable pub layIf : Answer → List ℕ → List ℕ → List ℕ
@@ -40,57 +43,55 @@ unfoldable pub layWritten : Written → List ℕ → List ℕ → List ℕ
 layWritten (written.Octets n) o w = over o 0 w
 layWritten (written.Refused r) o w = o
 
--- ---- opening, offering
+-- ---- opening, offering: "open session (21)", which a session that is too short is not
 unfoldable pub openAnswer : List ℕ → ℕ → Form → Answer
-openAnswer o source form = cond (isShort o) (answer.Refused NoRoom) (opening never source form .answer)
+openAnswer o source form = thenRoom (openedFor neverOpened source form .answer) o
 
 -- the session's octets after opening
 unfoldable pub openOctets : List ℕ → ℕ → Form → List ℕ
-openOctets o source form = layIf (openAnswer o source form) o (sessionLaid (opening never source form .session))
+openOctets o source form = layIf (openAnswer o source form) o (sessionLaid (openedFor neverOpened source form .session))
 
--- the answer to an offer: 15, or what the session in the octets answers
-unfoldable pub offerAnswer : Vocoder → List ℕ → ℕ → ℕ → ℕ → List ℕ → Taken
-offerAnswer v o source sequence timestamp p =
-    cond (isShort o) (taken.Refused NoRoom) (offered v (sessionIn o) source sequence timestamp p .answer)
+-- the answer to an offer is what the session in the octets answers
+unfoldable pub offerAnswer : FrameTable → List ℕ → ℕ → ℕ → ℕ → List ℕ → Taken
+offerAnswer v o source sequence timestamp p = offered v (sessionIn o) source sequence timestamp p .answer
 
 -- the session's octets after an offer
-unfoldable pub offerOctets : Vocoder → List ℕ → ℕ → ℕ → ℕ → List ℕ → List ℕ
+unfoldable pub offerOctets : FrameTable → List ℕ → ℕ → ℕ → ℕ → List ℕ → List ℕ
 offerOctets v o source sequence timestamp p =
     layTaken (offerAnswer v o source sequence timestamp p) o (sessionLaid (offered v (sessionIn o) source sequence timestamp p .session))
 
 -- ---- pouring, copying out, ending
-unfoldable pub pourOf : Vocoder → List ℕ → Made
-pourOf v o = cond (isShort o) (outputs.refused NoRoom) (pourMade v (sessionIn o))
+unfoldable pub pourOf : FrameTable → List ℕ → Made
+pourOf v o = pourMade v (sessionIn o)
 
 -- the session's octets after a pouring
 unfoldable pub pourOctets : List ℕ → Written → List ℕ
 pourOctets o w = layWritten w o (sessionLaid (ended (sessionIn o)))
 
--- the answer to copying out: 15 if either is short
-unfoldable pub copyAnswer : Vocoder → List ℕ → List ℕ → Answer
-copyAnswer v o out = cond (isShort o || isShort out) (answer.Refused NoRoom) (copied v (sessionIn o) .answer)
+-- the answer to copying out: 21, then 15
+unfoldable pub copyAnswer : FrameTable → List ℕ → List ℕ → Answer
+copyAnswer v o out = thenRoom (copied v (sessionIn o) .answer) out
 
 -- the holding's octets after copying out
-unfoldable pub copyOctets : Vocoder → List ℕ → List ℕ → List ℕ
+unfoldable pub copyOctets : FrameTable → List ℕ → List ℕ → List ℕ
 copyOctets v o out = layIf (copyAnswer v o out) out (holdingLaid (copied v (sessionIn o) .holding))
 
 -- the answer to ending: 15, or done
 unfoldable pub endAnswer : List ℕ → Answer
-endAnswer o = cond (isShort o) (answer.Refused NoRoom) answer.Done
+endAnswer o = roomIn o
 
 -- "Ending a session clears all of it": its octets are zero
 unfoldable pub endOctets : List ℕ → List ℕ
-endOctets o = layIf (endAnswer o) o (replicate 2048 0)
+endOctets o = layIf (endAnswer o) o (replicate 2304 0)
 
--- ---- joining, and pouring a holding
-unfoldable pub joinAnswer : Vocoder → List ℕ → List ℕ → List ℕ → Answer
-joinAnswer v a b out =
-    cond (isShort a || (isShort b || isShort out)) (answer.Refused NoRoom) (joinOf v (holdingIn a) (holdingIn b) .answer)
+-- ---- joining, and pouring a holding: 21, 20, 14, then 15
+unfoldable pub joinAnswer : FrameTable → List ℕ → List ℕ → List ℕ → Answer
+joinAnswer v a b out = thenRoom (joinOf v (holdingIn a) (holdingIn b) .answer) out
 
 -- the joined holding's octets
-unfoldable pub joinOctets : Vocoder → List ℕ → List ℕ → List ℕ → List ℕ
+unfoldable pub joinOctets : FrameTable → List ℕ → List ℕ → List ℕ → List ℕ
 joinOctets v a b out = layIf (joinAnswer v a b out) out (holdingLaid (joinOf v (holdingIn a) (holdingIn b) .holding))
 
 -- what pouring a holding makes
-unfoldable pub pourHeld : Vocoder → List ℕ → Made
-pourHeld v o = cond (isShort o) (outputs.refused NoRoom) (poured v (holdingIn o))
+unfoldable pub pourHeld : FrameTable → List ℕ → Made
+pourHeld v o = poured v (holdingIn o)

@@ -1,39 +1,49 @@
--- Sessions and holdings in 2,048 octets that a host lends (document 01, "Groups" and "Session"; docs/DECISIONS.md has the layout).
+-- Sessions and holdings in 2,304 octets that a host lends (document 01, "Groups" and "Session"; LAYOUT.md has the layout as a table).
 -- All of a holding of nothing, and all of a session never opened, is zero.
 use Prim.Native.Nat.{ℕ, _+_}
 use mathlib.Core.Bool.{Bool, cond, _&&_}
 use mathlib.Core.List.{List, [], _∷_, _++_, map}
 use lib.Dec.{eqb, leb}
-use lib.ListN.{take, drop, getD, replicate}
-use Rattle.octets.specs.Octets.{shifted, twoAt, fourAt, twoOctets, fourOctets}
-use Rattle.frame.specs.declared.Form.{Form}
-use Rattle.frame.specs.declared.Form.the-variants.{HeaderFree, Interleaved}
-use Rattle.holding.specs.Group.{allBelow, nothing}
+use lib.ListN.{length, take, drop, getD, replicate}
+use Rattle.octets.specs.Octets.{shifted, twoAt, fourAt, twoOctets, fourOctets, sameOctets}
+use Rattle.form.specs.declared.Form.{Form}
+use Rattle.form.specs.declared.Form.the-variants.{HeaderFree, Interleaved}
+use Rattle.frame.specs.FrameTable.{FrameTable}
+use Rattle.form.specs.Agreed as form
+use Rattle.holding.specs.Group as group
+use Rattle.holding.specs.Group.{nothing}
 use Rattle.holding.specs.declared.Holding.{Holding}
-use Rattle.session.specs.Session.{never}
+use Rattle.session.specs.Session.{neverOpened}
 use Rattle.session.specs.declared.Session.{Session}
 
 -- a flag as an octet, and an octet as a flag
 abbrev pub flagOctet : Bool → ℕ
 flagOctet b = cond b 1 0
 
--- an octet that a flag may be
-abbrev pub isFlag : ℕ → Bool
-isFlag x = leb x 1
-
 -- and whether it says yes
 abbrev pub isSet : ℕ → Bool
 isSet x = eqb x 1
 
--- ---- a holding, in 1,860 octets: types are laid out less 14 modulo 256, so that an erasure is 0
+-- ---- lent octets, whatever they are for
 
--- the numbers of a holding: octets 0 to 11
+-- a session and a holding take 2,304 octets; those behind them are not looked at
+unfoldable pub isLong : List ℕ → Bool
+isLong o = leb 2304 (length o)
+
+-- the octets are as they would be laid out: one that is too short, or "stands for nothing" and is not zero, is not
+unfoldable pub isLaid : List ℕ → List ℕ → Bool
+isLaid o w = isLong o && sameOctets w (take 2304 o)
+
+-- ---- a holding, in 1,872 octets: types are laid out less 14 modulo 256, so that an erasure is 0
+
+-- the numbers of a holding: octets 0 to 15, of which the last four stand for nothing
 unfoldable pub numberOctets : Holding → List ℕ
-numberOctets h = fourOctets (h .source) ++ twoOctets (h .sequence) ++ fourOctets (h .timestamp) ++ (h .l ∷ h .b ∷ [])
+numberOctets h =
+    fourOctets (h .source) ++ twoOctets (h .sequence) ++ fourOctets (h .timestamp) ++ (h .l ∷ h .b ∷ []) ++ replicate 4 0
 
--- which packets are held, the types and the bodies: octets 12 to 1,859
+-- which packets are held, eight octets that stand for nothing, the types and the bodies: octets 16 to 1,871
 unfoldable pub frameOctets : Holding → List ℕ
-frameOctets h = map flagOctet (h .held) ++ map (shifted 242) (h .marks) ++ h .room
+frameOctets h = map flagOctet (h .held) ++ replicate 8 0 ++ map (shifted 242) (h .marks) ++ h .room
 
 -- all that says something of a holding
 unfoldable pub holdingOctets : Holding → List ℕ
@@ -48,26 +58,26 @@ holdingAt o at =
       timestamp = fourAt o (at + 6);
       l = getD o (at + 10) 0;
       b = getD o (at + 11) 0;
-      held = map isSet (take 8 (drop (at + 12) o));
-      marks = map (shifted 14) (take 80 (drop (at + 20) o));
-      room = take 1760 (drop (at + 100) o);
+      held = map isSet (take 8 (drop (at + 16) o));
+      marks = map (shifted 14) (take 80 (drop (at + 32) o));
+      room = take 1760 (drop (at + 112) o);
     }
 
--- its eight flags are flags
-unfoldable pub flagsAt : List ℕ → ℕ → Bool
-flagsAt o at = allBelow (λ n. isFlag (getD o (at + n) 0)) 8
+-- a holding in 2,304 octets
+unfoldable pub holdingLaid : Holding → List ℕ
+holdingLaid h = holdingOctets h ++ replicate 432 0
+
+-- octets are a holding if that holding, laid out, is they
+unfoldable pub isHolding : List ℕ → Bool
+isHolding o = isLaid o (holdingLaid (holdingAt o 0))
 
 -- "octets that are no holding" count as one that holds no packet
 unfoldable pub holdingIn : List ℕ → Holding
-holdingIn o = cond (flagsAt o 12) (holdingAt o 0) nothing
+holdingIn o = cond (isHolding o) (holdingAt o 0) nothing
 
--- a holding in 2,048 octets
-unfoldable pub holdingLaid : Holding → List ℕ
-holdingLaid h = holdingOctets h ++ replicate 188 0
+-- ---- a session: 32 octets, and its group
 
--- ---- a session: 16 octets, and its group
-
--- a form: its kind and its maxima
+-- a form: its kind and its maxima, which are zero where there are none
 unfoldable pub formOctets : Form → List ℕ
 formOctets HeaderFree = 0 ∷ 0 ∷ 0 ∷ []
 formOctets (Interleaved m) = 1 ∷ m .«max_l» ∷ m .«max_b» ∷ []
@@ -77,15 +87,19 @@ unfoldable pub formAt : List ℕ → ℕ → Form
 formAt o at =
     cond (isSet (getD o at 0)) (Interleaved (record { «max_l» = getD o (at + 1) 0; «max_b» = getD o (at + 2) 0 })) HeaderFree
 
--- what stands before the held group: octets 0 to 15
+-- the numbers of the last poured group, which are zero where none was
+unfoldable pub lastOctets : Session → List ℕ
+lastOctets s = cond (s .poured) (twoOctets (s .«last_sequence») ++ (s .«last_l» ∷ s .«last_b» ∷ [])) (replicate 4 0)
+
+-- what stands before the held group: octets 0 to 31, of which the last nineteen stand for nothing
 unfoldable pub sessionHead : Session → List ℕ
 sessionHead s =
     (flagOctet (s .«open») ∷ []) ++ formOctets (s .form) ++ fourOctets (s .source) ++ (flagOctet (s .poured) ∷ []) ++
-    twoOctets (s .«last_sequence») ++ (s .«last_l» ∷ s .«last_b» ∷ []) ++ replicate 3 0
+    lastOctets s ++ replicate 19 0
 
--- a session in 2,048 octets
+-- a session in 2,304 octets
 unfoldable pub sessionLaid : Session → List ℕ
-sessionLaid s = sessionHead s ++ holdingOctets (s .group) ++ replicate 172 0
+sessionLaid s = sessionHead s ++ holdingOctets (s .group) ++ replicate 400 0
 
 -- the session that such octets say
 unfoldable pub sessionAt : List ℕ → Session
@@ -94,17 +108,25 @@ sessionAt o =
       «open» = isSet (getD o 0 0);
       source = fourAt o 4;
       form = formAt o 1;
-      group = holdingAt o 16;
+      group = holdingAt o 32;
       poured = isSet (getD o 8 0);
       «last_sequence» = twoAt o 9;
       «last_l» = getD o 11 0;
       «last_b» = getD o 12 0;
     }
 
--- its flags are flags
-unfoldable pub headRight : List ℕ → Bool
-headRight o = isFlag (getD o 0 0) && (isFlag (getD o 1 0) && (isFlag (getD o 8 0) && flagsAt o 28))
+-- octets are a session if that session, laid out, is they
+unfoldable pub isSession : List ℕ → Bool
+isSession o = isLaid o (sessionLaid (sessionAt o))
 
 -- "octets that are no session" count as one never opened
 unfoldable pub sessionIn : List ℕ → Session
-sessionIn o = cond (headRight o) (sessionAt o) never
+sessionIn o = cond (isSession o) (sessionAt o) neverOpened
+
+-- the frame table of the session in octets that a host lends
+abbrev pub sessionTable : List ℕ → FrameTable
+sessionTable o = form.tableOf (sessionIn o .form)
+
+-- the frame table of the holding
+abbrev pub holdingTable : List ℕ → FrameTable
+holdingTable o = group.tableOf (holdingIn o)

@@ -1,29 +1,27 @@
-// Sessions and holdings in 2,048 octets that a host lends (docs/DECISIONS.md has the layout), and the calls of document 01, "Session",
+// Sessions and holdings in 2,304 octets that a host lends (LAYOUT.md has the layout), and the calls of document 01, "Session",
 // on them. All of a session never opened is zero, and so is all of one that was ended.
-use frame::Form;
-use frame::Limits;
-use frame::Refusal;
-use frame::Written;
-use holding::Answer;
+use answers::Answer;
+use answers::Refusal;
+use answers::Written;
+use form::Form;
+use form::Limits;
 use holding::Holding;
 use session::Session;
 use session::Taken;
 ghost use mathlib.Core.Path.{_≡_};
-ghost use mathlib.Core.Bool.{true};
 ghost use mathlib.Core.List.{[], _∷_, map};
 ghost use Prim.Native.Nat.{_+_, _≤_};
 ghost use lib.ListN.{length, take, drop};
+ghost use Rattle.answers.specs.Outputs.{Writes};
 ghost use Rattle.octets.specs.Octets.{over, shifted};
-ghost use Rattle.frame.specs.Table.{evrc};
-ghost use Rattle.frame.specs.Outputs.{Writes};
-ghost use Rattle.lending.specs.Laid.{flagOctet, isSet, numberOctets, frameOctets, holdingOctets, holdingAt, flagsAt};
-ghost use Rattle.lending.specs.Laid.{holdingIn, holdingLaid, formOctets, formAt, sessionHead, sessionLaid, sessionAt};
-ghost use Rattle.lending.specs.Laid.{headRight, sessionIn};
-ghost use Rattle.lending.specs.Calls.{openAnswer, openOctets, offerAnswer, offerOctets, pourOf, pourOctets};
-ghost use Rattle.lending.specs.Calls.{copyAnswer, copyOctets, endAnswer, endOctets, joinAnswer, joinOctets, pourHeld};
+ghost use Rattle.lending.specs.Calls.{openAnswer, openOctets, offerAnswer, offerOctets, pourOf, pourOctets, copyAnswer};
+ghost use Rattle.lending.specs.Calls.{copyOctets, endAnswer, endOctets, joinAnswer, joinOctets, pourHeld, roomIn, layIf};
+ghost use Rattle.lending.specs.Laid.{sessionTable, holdingTable, flagOctet, isSet, numberOctets, frameOctets, holdingOctets, holdingAt, isLaid};
+ghost use Rattle.lending.specs.Laid.{holdingIn, holdingLaid, formOctets, formAt, lastOctets, sessionHead, sessionLaid};
+ghost use Rattle.lending.specs.Laid.{sessionAt, sessionIn};
 
 // The octets of a session, and of a holding.
-pub const OCTETS: usize = 2048;
+pub const OCTETS: usize = 2304;
 
 // A flag as an octet: 1 or 0.
 fn flag(set: bool) -> u8
@@ -68,50 +66,37 @@ fn put_flags(out: &mut [u8], at: usize, flags: &[bool])
 
 // Lays out the numbers of a holding.
 fn put_numbers(out: &mut [u8], at: usize, h: Holding)
-    requires { ⌜ at + 12 ≤ length (now out) ⌝ }
+    requires { ⌜ at + 16 ≤ length (now out) ⌝ }
     ensures { λ _. ⌜ now (out .exit) ≡ over (now (out .entry)) at (numberOctets h) ⌝ }
 {
     octets::put_four(out, at, h.source);
     octets::put_two(out, at + 4, h.sequence);
     octets::put_four(out, at + 6, h.timestamp);
     put_pair(out, at + 10, h.l, h.b);
+    octets::fill(out, at + 12, 4, 0);
 }
 
-// Lays out which packets are held, the types and the room.
+// Lays out which packets are held, the types and the bodies.
 fn put_frames(out: &mut [u8], at: usize, h: Holding)
-    requires { ⌜ at + 1848 ≤ length (now out) ⌝ }
+    requires { ⌜ at + 1856 ≤ length (now out) ⌝ }
     ensures { λ _. ⌜ now (out .exit) ≡ over (now (out .entry)) at (frameOctets h) ⌝ }
 {
     let held = h.held;
     put_flags(out, at, &held);
+    octets::fill(out, at + 8, 8, 0);
     let marks = h.marks;
-    octets::copy_shifted(out, at + 8, &marks, 242);
+    octets::copy_shifted(out, at + 16, &marks, 242);
     let room = h.room;
-    octets::copy(out, at + 88, &room);
+    octets::copy(out, at + 96, &room);
 }
 
 // Lays a holding out from index at on.
 fn put_holding(out: &mut [u8], at: usize, h: Holding)
-    requires { ⌜ at + 1860 ≤ length (now out) ⌝ }
+    requires { ⌜ at + 1872 ≤ length (now out) ⌝ }
     ensures { λ _. ⌜ now (out .exit) ≡ over (now (out .entry)) at (holdingOctets h) ⌝ }
 {
     put_numbers(out, at, h);
-    put_frames(out, at + 12, h);
-}
-
-// Whether eight octets are flags.
-fn are_flags(lent: &[u8], at: usize) -> bool
-    requires { ⌜ at + 8 ≤ length (now lent) ⌝ }
-    ensures { λ r. ⌜ r ≡ flagsAt (now (lent .entry)) at ⌝ }
-{
-    let mut i: usize = 0;
-    while i < 8 {
-        if 1 < lent[at + i] {
-            return false;
-        }
-        i += 1;
-    }
-    true
+    put_frames(out, at + 16, h);
 }
 
 // Eight flags.
@@ -150,12 +135,12 @@ fn room_at(lent: &[u8], at: usize) -> [u8; 1760]
 
 // The holding that is laid out from index at on.
 fn holding_at(lent: &[u8], at: usize) -> Holding
-    requires { ⌜ at + 1860 ≤ length (now lent) ⌝ }
+    requires { ⌜ at + 1872 ≤ length (now lent) ⌝ }
     ensures { λ r. ⌜ r ≡ holdingAt (now (lent .entry)) at ⌝ }
 {
-    let held = flags_at(lent, at + 12);
-    let marks = marks_at(lent, at + 20);
-    let room = room_at(lent, at + 100);
+    let held = flags_at(lent, at + 16);
+    let marks = marks_at(lent, at + 32);
+    let room = room_at(lent, at + 112);
     Holding {
         source: octets::four(lent, at),
         sequence: octets::two(lent, at + 4),
@@ -168,26 +153,49 @@ fn holding_at(lent: &[u8], at: usize) -> Holding
     }
 }
 
-// The holding in lent octets; one of nothing where they are none.
-fn holding_in(lent: &[u8]) -> Holding
-    requires { ⌜ 2048 ≤ length (now lent) ⌝ }
-    ensures { λ r. ⌜ r ≡ holdingIn (now (lent .entry)) ⌝ }
-{
-    let right = are_flags(lent, 12);
-    if right {
-        holding_at(lent, 0)
-    } else {
-        holding::empty()
-    }
-}
-
-// Lays a holding out in all 2,048 octets.
+// Lays a holding out in all 2,304 octets.
 fn lay_holding(out: &mut [u8], h: Holding)
-    requires { ⌜ 2048 ≤ length (now out) ⌝ }
+    requires { ⌜ 2304 ≤ length (now out) ⌝ }
     ensures { λ _. ⌜ now (out .exit) ≡ over (now (out .entry)) 0 (holdingLaid h) ⌝ }
 {
     put_holding(out, 0, h);
-    octets::fill(out, 1860, 188, 0);
+    octets::fill(out, 1872, 432, 0);
+}
+
+// Whether the octets are as a holding is laid out.
+fn is_laid_holding(lent: &[u8], h: Holding) -> bool
+    requires { ⌜ 2304 ≤ length (now lent) ⌝ }
+    ensures { λ r. ⌜ r ≡ isLaid (now (lent .entry)) (holdingLaid h) ⌝ }
+{
+    let mut again = [0u8; 2304];
+    lay_holding(&mut again, h);
+    octets::same(&again, &lent[0..OCTETS])
+}
+
+// The holding in lent octets; one of nothing where they are none.
+fn holding_in(lent: &[u8]) -> Holding
+    ensures { λ r. ⌜ r ≡ holdingIn (now (lent .entry)) ⌝ }
+{
+    if lent.len() < OCTETS {
+        return holding::nothing();
+    }
+    let h = holding_at(lent, 0);
+    if is_laid_holding(lent, h) {
+        h
+    } else {
+        holding::nothing()
+    }
+}
+
+// Gives a host a holding; 15 where its octets are too few.
+fn give_holding(out: &mut [u8], h: Holding) -> Answer
+    ensures { λ r. ⌜ (r ≡ roomIn (now (out .entry))) × (now (out .exit) ≡ layIf (roomIn (now (out .entry))) (now (out .entry)) (holdingLaid h)) ⌝ }
+{
+    if out.len() < OCTETS {
+        return Answer::Refused(Refusal::NoRoom);
+    }
+    lay_holding(out, h);
+    Answer::Done
 }
 
 // ---- sessions
@@ -207,9 +215,22 @@ fn put_form(out: &mut [u8], at: usize, form: Form)
     }
 }
 
+// Lays out the numbers of the last poured group, or zeros where none was.
+fn put_last(out: &mut [u8], session: Session)
+    requires { ⌜ 13 ≤ length (now out) ⌝ }
+    ensures { λ _. ⌜ now (out .exit) ≡ over (now (out .entry)) 9 (lastOctets session) ⌝ }
+{
+    if session.poured {
+        octets::put_two(out, 9, session.last_sequence);
+        put_pair(out, 11, session.last_l, session.last_b);
+    } else {
+        octets::fill(out, 9, 4, 0);
+    }
+}
+
 // Lays out all of a session but its group.
 fn put_head(out: &mut [u8], session: Session)
-    requires { ⌜ 16 ≤ length (now out) ⌝ }
+    requires { ⌜ 32 ≤ length (now out) ⌝ }
     ensures { λ _. ⌜ now (out .exit) ≡ over (now (out .entry)) 0 (sessionHead session) ⌝ }
 {
     put_flag(out, 0, session.open);
@@ -217,20 +238,19 @@ fn put_head(out: &mut [u8], session: Session)
     put_form(out, 1, form);
     octets::put_four(out, 4, session.source);
     put_flag(out, 8, session.poured);
-    octets::put_two(out, 9, session.last_sequence);
-    put_pair(out, 11, session.last_l, session.last_b);
-    octets::fill(out, 13, 3, 0);
+    put_last(out, session);
+    octets::fill(out, 13, 19, 0);
 }
 
-// Lays a session out in all 2,048 octets.
+// Lays a session out in all 2,304 octets.
 fn lay_session(out: &mut [u8], session: Session)
-    requires { ⌜ 2048 ≤ length (now out) ⌝ }
+    requires { ⌜ 2304 ≤ length (now out) ⌝ }
     ensures { λ _. ⌜ now (out .exit) ≡ over (now (out .entry)) 0 (sessionLaid session) ⌝ }
 {
     put_head(out, session);
     let group = session.group;
-    put_holding(out, 16, group);
-    octets::fill(out, 1876, 172, 0);
+    put_holding(out, 32, group);
+    octets::fill(out, 1904, 400, 0);
 }
 
 // The form that is laid out from index at on.
@@ -248,11 +268,11 @@ fn form_at(lent: &[u8], at: usize) -> Form
 
 // The session that is laid out.
 fn session_at(lent: &[u8]) -> Session
-    requires { ⌜ 2048 ≤ length (now lent) ⌝ }
+    requires { ⌜ 2304 ≤ length (now lent) ⌝ }
     ensures { λ r. ⌜ r ≡ sessionAt (now (lent .entry)) ⌝ }
 {
     let form = form_at(lent, 1);
-    let group = holding_at(lent, 16);
+    let group = holding_at(lent, 32);
     Session {
         open: lent[0] == 1,
         source: octets::four(lent, 4),
@@ -265,34 +285,40 @@ fn session_at(lent: &[u8]) -> Session
     }
 }
 
-// Whether the flags of a session are flags.
-fn is_session(lent: &[u8]) -> bool
-    requires { ⌜ 2048 ≤ length (now lent) ⌝ }
-    ensures { λ r. ⌜ r ≡ headRight (now (lent .entry)) ⌝ }
+// Whether the octets are as a session is laid out.
+fn is_laid_session(lent: &[u8], session: Session) -> bool
+    requires { ⌜ 2304 ≤ length (now lent) ⌝ }
+    ensures { λ r. ⌜ r ≡ isLaid (now (lent .entry)) (sessionLaid session) ⌝ }
 {
-    if 1 < lent[0] {
-        return false;
-    }
-    if 1 < lent[1] {
-        return false;
-    }
-    if 1 < lent[8] {
-        return false;
-    }
-    are_flags(lent, 28)
+    let mut again = [0u8; 2304];
+    lay_session(&mut again, session);
+    octets::same(&again, &lent[0..OCTETS])
 }
 
 // The session in lent octets; one never opened where they are none.
-fn session_in(lent: &[u8]) -> Session
-    requires { ⌜ 2048 ≤ length (now lent) ⌝ }
-    ensures { λ r. ⌜ r ≡ sessionIn (now (lent .entry)) ⌝ }
+fn session_in(from: &[u8]) -> Session
+    ensures { λ r. ⌜ r ≡ sessionIn (now (from .entry)) ⌝ }
 {
-    let right = is_session(lent);
-    if right {
-        session_at(lent)
-    } else {
-        session::closed()
+    if from.len() < OCTETS {
+        return session::never_opened();
     }
+    let session = session_at(from);
+    if is_laid_session(from, session) {
+        session
+    } else {
+        session::never_opened()
+    }
+}
+
+// Gives a host a session; 15 where its octets are too few.
+fn give_session(to: &mut [u8], session: Session) -> Answer
+    ensures { λ r. ⌜ (r ≡ roomIn (now (to .entry))) × (now (to .exit) ≡ layIf (roomIn (now (to .entry))) (now (to .entry)) (sessionLaid session)) ⌝ }
+{
+    if to.len() < OCTETS {
+        return Answer::Refused(Refusal::NoRoom);
+    }
+    lay_session(to, session);
+    Answer::Done
 }
 
 // ---- the calls
@@ -302,18 +328,14 @@ pub fn open(session: &mut [u8], source: u32, form: Form) -> Answer
     ensures { λ r. ⌜ (r ≡ openAnswer (now (session .entry)) source form)
         × (now (session .exit) ≡ openOctets (now (session .entry)) source form) ⌝ }
 {
-    if session.len() < OCTETS {
-        return Answer::Refused(Refusal::NoRoom);
-    }
-    let none = session::closed();
+    let none = session::never_opened();
     let started = session::open(none, source, form);
     let answer = started.answer;
     match answer {
         Answer::Refused(reason) => Answer::Refused(reason),
         Answer::Done => {
             let next = started.session;
-            lay_session(session, next);
-            Answer::Done
+            give_session(session, next)
         }
     }
 }
@@ -326,12 +348,9 @@ pub fn offer(
     timestamp: u32,
     payload: &[u8],
 ) -> Taken
-    ensures { λ r. ⌜ (r ≡ offerAnswer evrc (now (session .entry)) source sequence timestamp (now (payload .entry)))
-        × (now (session .exit) ≡ offerOctets evrc (now (session .entry)) source sequence timestamp (now (payload .entry))) ⌝ }
+    ensures { λ r. ⌜ (r ≡ offerAnswer (sessionTable (now (session .entry))) (now (session .entry)) source sequence timestamp (now (payload .entry)))
+        × (now (session .exit) ≡ offerOctets (sessionTable (now (session .entry))) (now (session .entry)) source sequence timestamp (now (payload .entry))) ⌝ }
 {
-    if session.len() < OCTETS {
-        return Taken::Refused(Refusal::NoRoom);
-    }
     let before = session_in(session);
     let offered = session::offer(before, source, sequence, timestamp, payload);
     let answer = offered.answer;
@@ -347,12 +366,9 @@ pub fn offer(
 
 // Pours the held group into out and ends it.
 pub fn pour(session: &mut [u8], out: &mut [u8]) -> Written
-    ensures { λ r. ⌜ Writes (pourOf evrc (now (session .entry))) (now (out .entry)) r (now (out .exit))
+    ensures { λ r. ⌜ Writes (pourOf (sessionTable (now (session .entry))) (now (session .entry))) (now (out .entry)) r (now (out .exit))
         × (now (session .exit) ≡ pourOctets (now (session .entry)) r) ⌝ }
 {
-    if session.len() < OCTETS {
-        return Written::Refused(Refusal::NoRoom);
-    }
     let before = session_in(session);
     let poured = session::pour(before, out);
     let answer = poured.answer;
@@ -368,23 +384,16 @@ pub fn pour(session: &mut [u8], out: &mut [u8]) -> Written
 
 // Copies the held group out.
 pub fn copy_out(session: &[u8], out: &mut [u8]) -> Answer
-    ensures { λ r. ⌜ (r ≡ copyAnswer evrc (now (session .entry)) (now (out .entry)))
-        × (now (out .exit) ≡ copyOctets evrc (now (session .entry)) (now (out .entry))) ⌝ }
+    ensures { λ r. ⌜ (r ≡ copyAnswer (sessionTable (now (session .entry))) (now (session .entry)) (now (out .entry)))
+        × (now (out .exit) ≡ copyOctets (sessionTable (now (session .entry))) (now (session .entry)) (now (out .entry))) ⌝ }
 {
-    if session.len() < OCTETS {
-        return Answer::Refused(Refusal::NoRoom);
-    }
-    if out.len() < OCTETS {
-        return Answer::Refused(Refusal::NoRoom);
-    }
     let copied = session::copy_out(session_in(session));
     let answer = copied.answer;
     match answer {
         Answer::Refused(reason) => Answer::Refused(reason),
         Answer::Done => {
             let group = copied.holding;
-            lay_holding(out, group);
-            Answer::Done
+            give_holding(out, group)
         }
     }
 }
@@ -402,36 +411,23 @@ pub fn end(session: &mut [u8]) -> Answer
 
 // Joins two holdings.
 pub fn join(a: &[u8], b: &[u8], out: &mut [u8]) -> Answer
-    ensures { λ r. ⌜ (r ≡ joinAnswer evrc (now (a .entry)) (now (b .entry)) (now (out .entry)))
-        × (now (out .exit) ≡ joinOctets evrc (now (a .entry)) (now (b .entry)) (now (out .entry))) ⌝ }
+    ensures { λ r. ⌜ (r ≡ joinAnswer (holdingTable (now (a .entry))) (now (a .entry)) (now (b .entry)) (now (out .entry)))
+        × (now (out .exit) ≡ joinOctets (holdingTable (now (a .entry))) (now (a .entry)) (now (b .entry)) (now (out .entry))) ⌝ }
 {
-    if a.len() < OCTETS {
-        return Answer::Refused(Refusal::NoRoom);
-    }
-    if b.len() < OCTETS {
-        return Answer::Refused(Refusal::NoRoom);
-    }
-    if out.len() < OCTETS {
-        return Answer::Refused(Refusal::NoRoom);
-    }
     let joined = joining::join(holding_in(a), holding_in(b));
     let answer = joined.answer;
     match answer {
         Answer::Refused(reason) => Answer::Refused(reason),
         Answer::Done => {
             let all = joined.holding;
-            lay_holding(out, all);
-            Answer::Done
+            give_holding(out, all)
         }
     }
 }
 
 // Pours a holding.
 pub fn pour_holding(holding: &[u8], out: &mut [u8]) -> Written
-    ensures { λ r. ⌜ Writes (pourHeld evrc (now (holding .entry))) (now (out .entry)) r (now (out .exit)) ⌝ }
+    ensures { λ r. ⌜ Writes (pourHeld (holdingTable (now (holding .entry))) (now (holding .entry))) (now (out .entry)) r (now (out .exit)) ⌝ }
 {
-    if holding.len() < OCTETS {
-        return Written::Refused(Refusal::NoRoom);
-    }
     pouring::pour(holding_in(holding), out)
 }

@@ -1,2 +1,4 @@
 pub mod Logic
-pub mod OctetLaws
+pub mod OctetsLaws
+pub mod Below
+pub mod Regions

@@ -1,7 +1,12 @@
 -- Lists of octets, as the contracts speak of them. Document 01 has no section on these: they are words for its others.
 use Prim.Native.Nat.{ℕ, _+_, _*_, _/_, _%_}
+use Prim.Native.Nat.{ℕ, zero, suc, _*_}
 use mathlib.Core.Bool.{Bool, true, false, _&&_}
 use mathlib.Core.List.{List, [], _∷_, _++_}
+use mathlib.Core.Bool.{Bool, true, false, _&&_}
+use mathlib.Core.List.{List}
+use lib.ListN.{length, take, drop, getD}
+use lib.Dec.{eqb}
 use lib.ListN.{length, take, drop, getD}
 use lib.Dec.{eqb}
 
@@ -46,3 +51,12 @@ twoOctets x = x / 256 ∷ x % 256 ∷ []
 -- the four octets of a number, big-endian
 unfoldable pub fourOctets : ℕ → List ℕ
 fourOctets x = twoOctets (x / 65536) ++ twoOctets (x % 65536)
+
+-- f holds of every number below n
+unfoldable pub allBelow : (ℕ → Bool) → ℕ → Bool
+allBelow f zero = true
+allBelow f (suc n) = f n && allBelow f n
+
+-- the n-th region of s elements
+unfoldable pub region : List ℕ → ℕ → ℕ → List ℕ
+region xs s n = take s (drop (s * n) xs)

@@ -9,62 +9,63 @@ use lib.Seq.{take-all}
 use lib.Dec.{ltb}
 use borrow.Author.Tests.{eq-eqb, ne-eqb, le-leb, lt-leb, lt-ltb, le-ltb}
 use Rattle.octets.proofs.Logic.{apart}
-use Rattle.frame.specs.Table.{Vocoder, Frame, known, size}
-use Rattle.frame.specs.Entry.{typeOf}
-use Rattle.frame.specs.Agreed.{opened}
-use Rattle.frame.specs.Outputs.{octets, refused}
-use Rattle.frame.specs.declared.Limits.{Limits}
-use Rattle.frame.specs.declared.Opened.the-variants as limits
-use Rattle.frame.specs.declared.Form.the-variants.{HeaderFree, Interleaved}
-use Rattle.frame.specs.declared.Refusal.{Refusal}
-use Rattle.frame.specs.declared.Refusal.the-variants.{ReservedType, BodyCut, IndexPastLength, LengthPastMaximum, TooManyFrames, NotSendable, NotApplicable}
-use Rattle.frame.proofs.AgreedLaws.{opened-agreed, opened-refused, range-bounds}
-use Rattle.recording.specs.Entries.{Recorded, frames, put, frameOf, entries, allowed, entriesIn, framesIn}
-use Rattle.recording.specs.Entries as entry
-use Rattle.recording.specs.Shown.{countedOf}
-use Rattle.recording.specs.declared.Counted.the-variants as counted
-use Rattle.recording.specs.declared.Rule.the-variants as rule
-use Rattle.recording.proofs.Clearing.{read-any}
-use Rattle.recording.proofs.EntryLaws.{entry as inverted}
+use Rattle.frame.specs.FrameTable.{Frame, known, size}
+use Rattle.form.specs.Agreed.{opened}
+use Rattle.answers.specs.Outputs.{octets, refusedOutput}
+use Rattle.form.specs.declared.Limits.{Limits}
+use Rattle.form.specs.declared.Opened.the-variants as limits
+use Rattle.form.specs.declared.Form.the-variants.{HeaderFree, Interleaved}
+use Rattle.answers.specs.declared.Refusal.{Refusal}
+use Rattle.answers.specs.declared.Refusal.the-variants.{ReservedType, BodyCut, IndexPastLength, LengthPastMaximum, TooManyFrames}
+use Rattle.answers.specs.declared.Refusal.the-variants.{NotSendable, NotApplicable}
+use Rattle.form.proofs.AgreedLaws.{opened-agreed, opened-refused, range-bounds}
+use Rattle.entries.specs.Kind.{Kind}
+use Rattle.entries.specs.Entries.{EntriesRead, frames, put, frameOf, entries, allowed, entriesIn, framesIn}
+use Rattle.entries.specs.Entries as entry
+use Rattle.entries.specs.Counting.{countedOf}
+use Rattle.entries.specs.declared.Counted.the-variants as counted
+use Rattle.entries.specs.declared.Rule.the-variants as rule
+use Rattle.entries.proofs.Clearing.{read-any}
+use Rattle.entries.proofs.EntriesLaws.{entry as inverted}
 use Rattle.packet.specs.Packet.{packetFrames, packed, groupIn}
 use Rattle.packet.specs.Writing.{packetOfGroup, packetWithin, packetMade, oneBody}
 
 -- ---- the interleaved writer
-module _ (v : Vocoder) (m : Limits) (l n b d : ℕ) (es : List ℕ) where
-  pub within-index : l < n → packetWithin v m l n b d es ≡ refused IndexPastLength
+module _ (kind : Kind) (m : Limits) (l n b d : ℕ) (es : List ℕ) where
+  pub within-index : l < n → packetWithin kind m l n b d es ≡ refusedOutput IndexPastLength
   unfolding packetWithin
   within-index h = rw (lt-ltb _ _ h)
 
   module _ (h : n ≤ l) where
-    pub within-length : m .«max_l» < l → packetWithin v m l n b d es ≡ refused LengthPastMaximum
+    pub within-length : m .«max_l» < l → packetWithin kind m l n b d es ≡ refusedOutput LengthPastMaximum
     unfolding packetWithin
     within-length k = simp (le-ltb _ _ h, lt-ltb _ _ k)
 
     module _ (k : l ≤ m .«max_l») where
-      pub within-none : b < 1 → packetWithin v m l n b d es ≡ refused TooManyFrames
+      pub within-none : b < 1 → packetWithin kind m l n b d es ≡ refusedOutput TooManyFrames
       unfolding packetWithin
       within-none q = simp (le-ltb _ _ h, le-ltb _ _ k, lt-leb _ _ q)
 
-      pub within-many : 1 ≤ b → m .«max_b» < b → packetWithin v m l n b d es ≡ refused TooManyFrames
+      pub within-many : 1 ≤ b → m .«max_b» < b → packetWithin kind m l n b d es ≡ refusedOutput TooManyFrames
       unfolding packetWithin
       within-many p q = simp (le-ltb _ _ h, le-ltb _ _ k, le-leb _ _ p, lt-leb _ _ q)
 
-      pub within-group : 1 ≤ b → b ≤ m .«max_b» → packetWithin v m l n b d es ≡ packetOfGroup l n b d (entriesIn v rule.Sendable es)
+      pub within-group : 1 ≤ b → b ≤ m .«max_b» → packetWithin kind m l n b d es ≡ packetOfGroup l n b d (entriesIn kind rule.Sendable es)
       unfolding packetWithin
       within-group p q = simp (le-ltb _ _ h, le-ltb _ _ k, le-leb _ _ p, le-leb _ _ q)
 
-  pub made-not-opened : (r : Refusal) → opened (m .«max_l») (m .«max_b») ≡ limits.Refused r → packetMade v (Interleaved m) l n b d es ≡ refused r
+  pub made-not-opened : (r : Refusal) → opened (m .«max_l») (m .«max_b») ≡ limits.Refused r → packetMade kind (Interleaved m) l n b d es ≡ refusedOutput r
   unfolding packetMade
-  made-not-opened r e = let x = opened-refused m r e in rw (x .0) (ap refused (sym (x .1)))
+  made-not-opened r e = let x = opened-refused m r e in rw (x .0) (ap refusedOutput (sym (x .1)))
 
   module _ (a : Limits) (e : opened (m .«max_l») (m .«max_b») ≡ limits.Agreed a) where
-    pub made-d : 1 < d → packetMade v (Interleaved m) l n b d es ≡ refused NotApplicable
+    pub made-d : 1 < d → packetMade kind (Interleaved m) l n b d es ≡ refusedOutput NotApplicable
     unfolding packetMade
     made-d h = let x = opened-agreed m a e in simp (x .0, lt-leb _ _ h)
 
-    pub made-within : d ≤ 1 → packetMade v (Interleaved m) l n b d es ≡ packetWithin v a l n b d es
+    pub made-within : d ≤ 1 → packetMade kind (Interleaved m) l n b d es ≡ packetWithin kind a l n b d es
     unfolding packetMade
-    made-within h = let x = opened-agreed m a e in simp (x .0, le-leb _ _ h) (ap (λ (y : Limits). packetWithin v y l n b d es) (sym (x .1)))
+    made-within h = let x = opened-agreed m a e in simp (x .0, le-leb _ _ h) (ap (λ (y : Limits). packetWithin kind y l n b d es) (sym (x .1)))
 
 -- ---- limits that were opened are in range
 pub opened-range : (m a : Limits) → opened (m .«max_l») (m .«max_b») ≡ limits.Agreed a → (a .«max_l» ≤ 7) × (a .«max_b» ≤ 10)
@@ -74,13 +75,13 @@ opened-range m a e =
     rw (x .1) (r .0, r .2)
 
 -- ---- the walk, and the frame count
-module _ (l n b d : ℕ) (w : Recorded) where
-  pub group-refused : (r : Refusal) → counted.Refused r ≡ countedOf w → packetOfGroup l n b d w ≡ refused r
+module _ (l n b d : ℕ) (w : EntriesRead) where
+  pub group-refused : (r : Refusal) → counted.Refused r ≡ countedOf w → packetOfGroup l n b d w ≡ refusedOutput r
   unfolding packetOfGroup countedOf
   group-refused r e = go w e
     where
-      go : (u : Recorded) → counted.Refused r ≡ countedOf u → packetOfGroup l n b d u ≡ refused r
-      go (entry.refused r′) x = let y : r′ ≡ r = cc in ap refused y
+      go : (u : EntriesRead) → counted.Refused r ≡ countedOf u → packetOfGroup l n b d u ≡ refusedOutput r
+      go (entry.refusedEntries r′) x = let y : r′ ≡ r = cc in ap refusedOutput y
       go (frames fs) x = apart (cc)
 
   module _ (c : ℕ) (e : counted.Frames c ≡ countedOf w) where
@@ -88,74 +89,80 @@ module _ (l n b d : ℕ) (w : Recorded) where
     unfolding countedOf
     frames-of = go w refl e
       where
-        go : (u : Recorded) → w ≡ u → counted.Frames c ≡ countedOf u → (fs : List Frame) × (w ≡ frames fs) × (c ≡ length fs)
-        go (entry.refused r) q x = apart (cc)
+        go : (u : EntriesRead) → w ≡ u → counted.Frames c ≡ countedOf u → (fs : List Frame) × (w ≡ frames fs) × (c ≡ length fs)
+        go (entry.refusedEntries r) q x = apart (cc)
         go (frames fs) q x = (fs, q, cc)
 
-    pub group-count : (c ≡ (l + 1) * b → ⊥) → packetOfGroup l n b d w ≡ refused NotSendable
+    pub group-count : (c ≡ (l + 1) * b → ⊥) → packetOfGroup l n b d w ≡ refusedOutput NotSendable
     unfolding packetOfGroup
     group-count h =
         let x = frames-of in
         rw (x .1, ne-eqb (length (x .0)) ((l + 1) * b) (λ q. h (x .2 ∙ q)))
 
 -- the walk went through: the frames are there under no rule too, and the packet is made of them
-pub record Group (v : Vocoder) (l n b d : ℕ) (es : List ℕ) : Type 0 where
-  pub made : packetOfGroup l n b d (entriesIn v rule.Sendable es) ≡ octets (packed l n d (packetFrames l n b (groupIn v es)))
-  pub count : (l + 1) * b ≡ length (groupIn v es)
+pub record Group (kind : Kind) (l n b d : ℕ) (es : List ℕ) : Type 0 where
+  pub made : packetOfGroup l n b d (entriesIn kind rule.Sendable es) ≡ octets (packed l n d (packetFrames l n b (groupIn kind es)))
+  pub count : (l + 1) * b ≡ length (groupIn kind es)
 
-pub group-made : (v : Vocoder) (l n b d c : ℕ) (es : List ℕ) → counted.Frames c ≡ countedOf (entriesIn v rule.Sendable es) → c ≡ (l + 1) * b → Group v l n b d es
+pub group-made : (kind : Kind) (l n b d c : ℕ) (es : List ℕ) → counted.Frames c ≡ countedOf (entriesIn kind rule.Sendable es) → c ≡ (l + 1) * b → Group kind l n b d es
 unfolding packetOfGroup framesIn
-group-made v l n b d c es e h =
-    let x = frames-of l n b d (entriesIn v rule.Sendable es) c e in
-    let y : entriesIn v rule.Any es ≡ frames (x .0) = read-any v rule.Sendable es (x .0) (x .1) in
+group-made kind l n b d c es e h =
+    let x = frames-of l n b d (entriesIn kind rule.Sendable es) c e in
+    let y : entriesIn kind rule.Any es ≡ frames (x .0) = read-any kind rule.Sendable es (x .0) (x .1) in
     let z : length (x .0) ≡ (l + 1) * b = sym (x .2) ∙ h in
-    let g : groupIn v es ≡ x .0 = ap framesIn y in
+    let g : groupIn kind es ≡ x .0 = ap framesIn y in
     record { made = rw (x .1, eq-eqb (length (x .0)) ((l + 1) * b) z) (ap (λ (fs : List Frame). octets (packed l n d (packetFrames l n b fs))) (sym g)); count = sym z ∙ ap length (sym g) }
 
 -- ---- the header-free writer
-pub body-refused : (w : Recorded) (r : Refusal) → counted.Refused r ≡ countedOf w → oneBody w ≡ refused r
+pub body-refused : (w : EntriesRead) (r : Refusal) → counted.Refused r ≡ countedOf w → oneBody w ≡ refusedOutput r
 unfolding oneBody countedOf
-body-refused (entry.refused r′) r x = let y : r′ ≡ r = cc in ap refused y
+body-refused (entry.refusedEntries r′) r x = let y : r′ ≡ r = cc in ap refusedOutput y
 body-refused (frames fs) r x = apart (cc)
 
-pub body-count : (w : Recorded) (c : ℕ) → counted.Frames c ≡ countedOf w → (c ≡ 1 → ⊥) → oneBody w ≡ refused NotSendable
+pub body-count : (w : EntriesRead) (c : ℕ) → counted.Frames c ≡ countedOf w → (c ≡ 1 → ⊥) → oneBody w ≡ refusedOutput NotSendable
 unfolding oneBody countedOf
-body-count (entry.refused r) c x h = apart (cc)
+body-count (entry.refusedEntries r) c x h = apart (cc)
 body-count (frames []) c x h = refl
 body-count (frames (f ∷ [])) c x h = absurd (h (cc))
 body-count (frames (f ∷ g ∷ fs)) c x h = refl
 
 -- one entry is its octet and its body
-pub record One (v : Vocoder) (es : List ℕ) : Type 0 where
-  pub made : oneBody (entriesIn v rule.HeaderFree es) ≡ octets (drop 1 es)
+pub record One (kind : Kind) (es : List ℕ) : Type 0 where
+  pub made : oneBody (entriesIn kind rule.HeaderFree es) ≡ octets (drop 1 es)
   pub some : 1 ≤ length es
 
-no-more : (v : Vocoder) (ok : Frame → Bool) (p : List ℕ) → entries v ok 0 p ≡ frames [] → length p ≤ 0
+no-more : (kind : Kind) (ok : Frame → Bool) (p : List ℕ) → entries kind ok 0 p ≡ frames [] → length p ≤ 0
 unfolding entries
-no-more v ok [] e = omega arith
-no-more v ok (x ∷ p) e = go (known v (typeOf x)) (ltb (length p) (size v (typeOf x))) (ok (frameOf v x p)) e
+no-more kind ok [] e = omega arith
+no-more kind ok (x ∷ p) e = go (known (kind .table) (kind .typeOf x)) (ltb (length p) (size (kind .table) (kind .typeOf x))) (ok (frameOf kind x p)) e
   where
-    none : (w : Recorded) → put (frameOf v x p) w ≡ frames [] → length (x ∷ p) ≤ 0
+    none : (w : EntriesRead) → put (frameOf kind x p) w ≡ frames [] → length (x ∷ p) ≤ 0
     none (frames fs) q = apart (cc)
-    none (entry.refused r) q = apart (cc)
+    none (entry.refusedEntries r) q = apart (cc)
 
-    go : (a b c : Bool) → cond a (cond b (entry.refused BodyCut) (cond c (put (frameOf v x p) (entries v ok (size v (typeOf x)) p)) (entry.refused NotSendable))) (entry.refused ReservedType) ≡ frames [] → length (x ∷ p) ≤ 0
+    go :
+        (a b c : Bool) →
+        cond a
+        (cond b (entry.refusedEntries BodyCut) (cond c (put (frameOf kind x p) (entries kind ok (size (kind .table) (kind .typeOf x)) p)) (entry.refusedEntries NotSendable)))
+        (entry.refusedEntries ReservedType)
+        ≡ frames [] →
+        length (x ∷ p) ≤ 0
     go false b c q = apart (cc)
     go true true c q = apart (cc)
     go true false false q = apart (cc)
-    go true false true q = none (entries v ok (size v (typeOf x)) p) q
+    go true false true q = none (entries kind ok (size (kind .table) (kind .typeOf x)) p) q
 
-pub one-made : (v : Vocoder) (es : List ℕ) (c : ℕ) → counted.Frames c ≡ countedOf (entriesIn v rule.HeaderFree es) → c ≡ 1 → One v es
+pub one-made : (kind : Kind) (es : List ℕ) (c : ℕ) → counted.Frames c ≡ countedOf (entriesIn kind rule.HeaderFree es) → c ≡ 1 → One kind es
 unfolding oneBody countedOf
-one-made v es c e h = go (entriesIn v rule.HeaderFree es) refl e
+one-made kind es c e h = go (entriesIn kind rule.HeaderFree es) refl e
   where
-    go : (w : Recorded) → entriesIn v rule.HeaderFree es ≡ w → counted.Frames c ≡ countedOf w → One v es
-    go (entry.refused r) q x = apart (cc)
+    go : (w : EntriesRead) → entriesIn kind rule.HeaderFree es ≡ w → counted.Frames c ≡ countedOf w → One kind es
+    go (entry.refusedEntries r) q x = apart (cc)
     go (frames []) q x = let z : c ≡ 0 = cc in absurd (omega arith)
     go (frames (f ∷ g ∷ fs)) q x = let z : c ≡ length (f ∷ g ∷ fs) = cc in absurd (omega arith)
     go (frames (f ∷ [])) q x =
-        let y = inverted v (allowed v rule.HeaderFree) es 0 f [] q in
-        let s = size v (typeOf (getD es 0 0)) in
-        let k = no-more v (allowed v rule.HeaderFree) (drop (0 + 1 + s) es) (y .rest) in
+        let y = inverted kind (allowed (kind .table) rule.HeaderFree) es 0 f [] q in
+        let s = size (kind .table) (kind .typeOf (getD es 0 0)) in
+        let k = no-more kind (allowed (kind .table) rule.HeaderFree) (drop (0 + 1 + s) es) (y .rest) in
         let b : f .body ≡ drop 1 es = y .body ∙ take-all s (drop 1 es) (omega (arith, length-drop 1 es, length-drop (0 + 1 + s) es)) in
         record { made = rw q (ap octets b); some = omega (arith, y .here) }

@@ -12,10 +12,10 @@ use lib.Seq.{paste}
 use lib.Dec.{ltb}
 use borrow.Author.Tests.{ltb-true, ltb-false}
 use Rattle.octets.specs.Octets.{over}
-use Rattle.octets.proofs.OctetLaws.{copy-more, set-over, over-append}
-use Rattle.frame.specs.Table.{Frame, typesOf, Every}
+use Rattle.octets.proofs.OctetsLaws.{copy-more, set-over, over-append}
+use Rattle.frame.specs.FrameTable.{Frame, typesOf, Every}
 use Rattle.frame.specs.Places.{frameAt, noFrame, upTo}
-use Rattle.frame.proofs.PlaceLaws.{length-upTo, upTo-at, types-at, length-types, every-at, every-upTo}
+use Rattle.frame.proofs.PlacesLaws.{length-upTo, upTo-at, types-at, length-types, every-at, every-upTo}
 use Rattle.packet.specs.Packet.{placeOf, packetFrames, bodiesOf, tocOf, packed}
 use Rattle.packet.proofs.Numbering.{place-in}
 
@@ -67,7 +67,9 @@ bodies-append (f ∷ xs) ys = ap (λ (l : List ℕ). f .body ++ l) (bodies-appen
 pub bodies-next : (l n k : ℕ) (fs : List Frame) → bodiesOf (packetFrames l n (k + 1) fs) ≡ bodiesOf (packetFrames l n k fs) ++ frameAt fs (placeOf l n k) .body
 unfolding packetFrames upTo
 bodies-next l n k fs =
-    rw (add-one k) (bodies-append (packetFrames l n k fs) (frameAt fs (placeOf l n k) ∷ []) ∙ ap (λ (x : List ℕ). bodiesOf (packetFrames l n k fs) ++ x) (append-nil (frameAt fs (placeOf l n k) .body)))
+    rw (add-one k)
+    (bodies-append (packetFrames l n k fs) (frameAt fs (placeOf l n k) ∷ [])
+    ∙ ap (λ (x : List ℕ). bodiesOf (packetFrames l n k fs) ++ x) (append-nil (frameAt fs (placeOf l n k) .body)))
 
 pub bodies-within : (l n k b : ℕ) (fs : List Frame) → k ≤ b → length (bodiesOf (packetFrames l n k fs)) ≤ length (bodiesOf (packetFrames l n b fs))
 unfolding packetFrames upTo
@@ -109,7 +111,11 @@ module _ (l n b d : ℕ) (fs : List Frame) where
   pub length-packed : length (packed l n d (packetFrames l n b fs)) ≡ 1 + b + length (bodiesOf (packetFrames l n b fs))
   length-packed = omega (arith, length-append (tocOf d (typesOf (packetFrames l n b fs))) (bodiesOf (packetFrames l n b fs)), length-table l n b d fs)
 
-  pub packed-over : (out : List ℕ) → 0 < length out → over (over (set out 0 (l * 8 + n)) 1 (tocOf d (typesOf (packetFrames l n b fs)))) (1 + b) (bodiesOf (packetFrames l n b fs)) ≡ over out 0 (packed l n d (packetFrames l n b fs))
+  pub packed-over :
+      (out : List ℕ) →
+      0 < length out →
+      over (over (set out 0 (l * 8 + n)) 1 (tocOf d (typesOf (packetFrames l n b fs)))) (1 + b) (bodiesOf (packetFrames l n b fs))
+      ≡ over out 0 (packed l n d (packetFrames l n b fs))
   packed-over out h =
       let x = l * 8 + n in
       let t = tocOf d (typesOf (packetFrames l n b fs)) in

@@ -3,11 +3,11 @@ use Prim.Native.Nat.{ℕ, _+_, _*_, _<_, _≤_}
 use mathlib.Core.Path.{_≡_}
 use mathlib.Core.List.{List, [], _∷_, _++_}
 use lib.ListN.{length, take, drop, getD}
-use Rattle.frame.specs.Table.{Vocoder, Frame, size, typesOf}
-use Rattle.frame.specs.Entry.{typeOf}
+use Rattle.frame.specs.FrameTable.{Frame, size, typesOf}
 use Rattle.frame.specs.Places.{frameAt, upTo}
-use Rattle.recording.specs.Entries.{entriesIn, framesIn}
-use Rattle.recording.specs.declared.Rule.the-variants.{Any}
+use Rattle.entries.specs.Kind.{Kind}
+use Rattle.entries.specs.Entries.{entriesIn, framesIn}
+use Rattle.entries.specs.declared.Rule.the-variants.{Any}
 
 -- "Frame k of packet N stands at time place k x (L + 1) + N."
 abbrev pub placeOf : ℕ → ℕ → ℕ → ℕ
@@ -37,20 +37,20 @@ abbrev pub packed : ℕ → ℕ → ℕ → List Frame → List ℕ
 packed l n d fs = (l * 8 + n) ∷ (tocOf d (typesOf fs) ++ bodiesOf fs)
 
 -- the frames of entries, in time order
-abbrev pub groupIn : Vocoder → List ℕ → List Frame
-groupIn v es = framesIn (entriesIn v Any es)
+abbrev pub groupIn : Kind → List ℕ → List Frame
+groupIn kind es = framesIn (entriesIn kind Any es)
 
 -- entries that have every frame of packet N's first b, of a group that is not too long
-pub record Picked (v : Vocoder) (l n b : ℕ) (es : List ℕ) : Type 0 where
+pub record Picked (kind : Kind) (l n b : ℕ) (es : List ℕ) : Type 0 where
   pub length-small : l ≤ 7
   pub index-in : n ≤ l
   pub bundle-small : b ≤ 10
-  pub there : (l + 1) * b ≤ length (groupIn v es)
+  pub there : (l + 1) * b ≤ length (groupIn kind es)
 
 -- the entry of a frame stands at a place of the octets, and its body behind it
-pub record EntryAt (v : Vocoder) (es : List ℕ) (at : ℕ) (f : Frame) : Type 0 where
+pub record EntryAt (kind : Kind) (es : List ℕ) (at : ℕ) (f : Frame) : Type 0 where
   pub here : at < length es
-  pub type : typeOf (getD es at 0) ≡ f .type
-  pub octets : size v (typeOf (getD es at 0)) ≡ length (f .body)
-  pub inside : at + 1 + size v (typeOf (getD es at 0)) ≤ length es
-  pub body : take (size v (typeOf (getD es at 0))) (drop (at + 1) es) ≡ f .body
+  pub type : kind .typeOf (getD es at 0) ≡ f .type
+  pub octets : size (kind .table) (kind .typeOf (getD es at 0)) ≡ length (f .body)
+  pub inside : at + 1 + size (kind .table) (kind .typeOf (getD es at 0)) ≤ length es
+  pub body : take (size (kind .table) (kind .typeOf (getD es at 0))) (drop (at + 1) es) ≡ f .body

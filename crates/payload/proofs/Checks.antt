@@ -7,45 +7,47 @@ use native.Mathlib.Omega.{arith}
 use lib.Dec.{ltb}
 use lib.ListN.{length, drop, getD, length-drop}
 use borrow.Author.Tests.{lt-ltb, le-ltb}
-use Rattle.frame.specs.Table.{Vocoder, size, rowOfSize}
+use Rattle.frame.specs.FrameTable.{FrameTable, size, rowOfSize}
 use Rattle.frame.specs.declared.Row.{Row}
 use Rattle.frame.specs.declared.Lookup.the-variants.{Found, Missing}
-use Rattle.frame.specs.Agreed.{opened}
-use Rattle.frame.specs.declared.Limits.{Limits}
-use Rattle.frame.specs.declared.Opened.the-variants as limits
-use Rattle.frame.specs.declared.Form.the-variants.{HeaderFree, Interleaved}
-use Rattle.frame.specs.declared.Refusal.{Refusal}
-use Rattle.frame.specs.declared.Refusal.the-variants.{NoOctet, IndexPastLength, LengthPastMaximum, BodiesCut, OctetsLeft, HeaderFreeLength}
-use Rattle.frame.proofs.AgreedLaws.{opened-agreed, opened-refused}
+use Rattle.form.specs.Agreed.{opened}
+use Rattle.form.specs.declared.Limits.{Limits}
+use Rattle.form.specs.declared.Opened.the-variants as limits
+use Rattle.form.specs.declared.Form.the-variants.{HeaderFree, Interleaved}
+use Rattle.answers.specs.declared.Refusal.{Refusal}
+use Rattle.answers.specs.declared.Refusal.the-variants.{NoOctet, IndexPastLength, LengthPastMaximum, BodiesCut, OctetsLeft}
+use Rattle.answers.specs.declared.Refusal.the-variants.{HeaderFreeLength}
+use Rattle.form.proofs.AgreedLaws.{opened-agreed, opened-refused}
 use Rattle.octets.proofs.Logic.{apart}
-use Rattle.payload.specs.Payload.{Reading, refused, Table, table, fault, toc, total, cut, bodies, interleaved, oneBody, readAs, lOf, nOf}
-use Rattle.payload.specs.Shown.{contentsOf, entriesOf}
+use Rattle.payload.specs.Payload.{Reading, refusedPayload, Toc, contents, fault, toc, total, cut, bodies, interleaved, oneBody}
+use Rattle.payload.specs.Payload.{readAs, lOf, nOf}
+use Rattle.payload.specs.Shown.{contentsOf, walked}
 use Rattle.payload.specs.declared.Contents.the-variants.{Packet, Refused}
-use Rattle.payload.specs.declared.Entries.the-variants as entries
+use Rattle.payload.specs.declared.Walked.the-variants as entries
 use Rattle.payload.proofs.Tables.{Counted, counted}
 
-headed : Vocoder → Limits → ℕ → List ℕ → Reading
+headed : FrameTable → Limits → ℕ → List ℕ → Reading
 headed v m h es =
-    cond (ltb (lOf h) (nOf h)) (refused IndexPastLength)
-    (cond (ltb (m .«max_l») (lOf h)) (refused LengthPastMaximum)
+    cond (ltb (lOf h) (nOf h)) (refusedPayload IndexPastLength)
+    (cond (ltb (m .«max_l») (lOf h)) (refusedPayload LengthPastMaximum)
     (bodies v (lOf h) (nOf h) (toc v (m .«max_b») 0 es)))
 
-has-head : (v : Vocoder) (m : Limits) (p : List ℕ) → 1 ≤ length p → interleaved v m p ≡ headed v m (getD p 0 0) (drop 1 p)
+has-head : (v : FrameTable) (m : Limits) (p : List ℕ) → 1 ≤ length p → interleaved v m p ≡ headed v m (getD p 0 0) (drop 1 p)
 unfolding headed interleaved
 has-head v m [] h = absurd (omega arith)
 has-head v m (x ∷ p) h = refl
 
-pub length-cut : (v : Vocoder) (ts bs : List ℕ) → length (cut v ts bs) ≡ length ts
+pub length-cut : (v : FrameTable) (ts bs : List ℕ) → length (cut v ts bs) ≡ length ts
 length-cut v [] bs = refl
 length-cut v (t ∷ ts) bs = ap suc (length-cut v ts (drop (size v t) bs))
 
-pub no-octet : (v : Vocoder) (m : Limits) (p : List ℕ) → length p < 1 → Refused NoOctet ≡ contentsOf (interleaved v m p)
+pub no-octet : (v : FrameTable) (m : Limits) (p : List ℕ) → length p < 1 → Refused NoOctet ≡ contentsOf (interleaved v m p)
 unfolding interleaved contentsOf
 no-octet v m [] h = refl
 no-octet v m (x ∷ p) h = absurd (omega arith)
 
 -- octet 0 is there
-module _ (v : Vocoder) (m : Limits) (p : List ℕ) (h : 1 ≤ length p) where
+module _ (v : FrameTable) (m : Limits) (p : List ℕ) (h : 1 ≤ length p) where
   pub n-above : lOf (getD p 0 0) < nOf (getD p 0 0) → Refused IndexPastLength ≡ contentsOf (interleaved v m p)
   unfolding headed contentsOf
   n-above a = rw (has-head v m p h, lt-ltb _ _ a)
@@ -61,16 +63,16 @@ module _ (v : Vocoder) (m : Limits) (p : List ℕ) (h : 1 ≤ length p) where
       unfolding headed
       begun = has-head v m p h ∙ simp (le-ltb _ _ n, le-ltb _ _ l)
 
-      pub at-fault : (r : Refusal) → entries.Fault r ≡ entriesOf v (toc v (m .«max_b») 0 (drop 1 p)) → Refused r ≡ contentsOf (interleaved v m p)
-      unfolding entriesOf bodies contentsOf
+      pub at-fault : (r : Refusal) → entries.Fault r ≡ walked v (toc v (m .«max_b») 0 (drop 1 p)) → Refused r ≡ contentsOf (interleaved v m p)
+      unfolding walked bodies contentsOf
       at-fault r e = sym (ap contentsOf begun ∙ go (toc v (m .«max_b») 0 (drop 1 p)) e)
         where
-          go : (w : Table) → entries.Fault r ≡ entriesOf v w → contentsOf (bodies v (lOf (getD p 0 0)) (nOf (getD p 0 0)) w) ≡ Refused r
-          go (table ts d rest) q = apart (cc)
+          go : (w : Toc) → entries.Fault r ≡ walked v w → contentsOf (bodies v (lOf (getD p 0 0)) (nOf (getD p 0 0)) w) ≡ Refused r
+          go (contents ts d rest) q = apart (cc)
           go (fault r′) q = cc
 
       -- the walk went through
-      module _ (c s d : ℕ) (e : entries.Table c s d ≡ entriesOf v (toc v (m .«max_b») 0 (drop 1 p))) where
+      module _ (c s d : ℕ) (e : entries.Whole c s d ≡ walked v (toc v (m .«max_b») 0 (drop 1 p))) where
         yields : Counted v (m .«max_b») (drop 1 p) (toc v (m .«max_b») 0 (drop 1 p)) c s d
         yields = counted v (m .«max_b») (drop 1 p) c s d e
 
@@ -98,19 +100,19 @@ module _ (v : Vocoder) (m : Limits) (p : List ℕ) (h : 1 ≤ length p) where
             rw begun (simp (yields .is, le-ltb _ _ a, le-ltb _ _ b, length-cut) (ap (λ (x : ℕ). Packet (lOf (getD p 0 0)) (nOf (getD p 0 0)) x d) (yields .count)))
 
 -- type 1, with the limits opened
-pub not-opened : (v : Vocoder) (m : Limits) (p : List ℕ) (r : Refusal) → opened (m .«max_l») (m .«max_b») ≡ limits.Refused r → Refused r ≡ contentsOf (readAs v (Interleaved m) p)
+pub not-opened : (v : FrameTable) (m : Limits) (p : List ℕ) (r : Refusal) → opened (m .«max_l») (m .«max_b») ≡ limits.Refused r → Refused r ≡ contentsOf (readAs v (Interleaved m) p)
 unfolding readAs contentsOf
 not-opened v m p r e = let h = opened-refused m r e in rw (h .0) (ap Refused (h .1))
 
-pub is-opened : (v : Vocoder) (m a : Limits) (p : List ℕ) → opened (m .«max_l») (m .«max_b») ≡ limits.Agreed a → contentsOf (interleaved v a p) ≡ contentsOf (readAs v (Interleaved m) p)
+pub is-opened : (v : FrameTable) (m a : Limits) (p : List ℕ) → opened (m .«max_l») (m .«max_b») ≡ limits.Agreed a → contentsOf (interleaved v a p) ≡ contentsOf (readAs v (Interleaved m) p)
 unfolding readAs
 is-opened v m a p e = let h = opened-agreed m a e in rw (h .0) (ap (λ (x : Limits). contentsOf (interleaved v x p)) (h .1))
 
 -- type 2
-pub no-such-length : (v : Vocoder) (p : List ℕ) → rowOfSize v (length p) ≡ Missing → Refused HeaderFreeLength ≡ contentsOf (readAs v HeaderFree p)
+pub no-such-length : (v : FrameTable) (p : List ℕ) → rowOfSize v (length p) ≡ Missing → Refused HeaderFreeLength ≡ contentsOf (readAs v HeaderFree p)
 unfolding readAs oneBody contentsOf
 no-such-length v p e = rw e
 
-pub one-frame : (v : Vocoder) (p : List ℕ) (r : Row) → rowOfSize v (length p) ≡ Found r → Packet 0 0 1 0 ≡ contentsOf (readAs v HeaderFree p)
+pub one-frame : (v : FrameTable) (p : List ℕ) (r : Row) → rowOfSize v (length p) ≡ Found r → Packet 0 0 1 0 ≡ contentsOf (readAs v HeaderFree p)
 unfolding readAs oneBody contentsOf
 one-frame v p r e = rw e

@@ -11,28 +11,29 @@ use lib.Seq.{length-take-le, take-take, getD-take, drop-drop, getD-drop, take-al
 use lib.Dec.{ltb}
 use borrow.Author.Tests.{ltb-false}
 use Rattle.octets.proofs.Logic.{apart}
-use Rattle.frame.specs.Table.{Vocoder, Frame, size, rowOfSize}
+use Rattle.frame.specs.FrameTable.{FrameTable, Frame, size, rowOfSize}
 use Rattle.frame.specs.Places.{taken, frameAt, locatedOf}
-use Rattle.frame.specs.Agreed.{inRange}
-use Rattle.frame.specs.declared.Limits.{Limits}
+use Rattle.form.specs.Agreed.{inRange}
+use Rattle.form.specs.declared.Limits.{Limits}
 use Rattle.frame.specs.declared.Row.{Row}
 use Rattle.frame.specs.declared.Lookup.{Lookup}
 use Rattle.frame.specs.declared.Lookup.the-variants.{Found, Missing}
-use Rattle.frame.specs.declared.Form.{Form}
-use Rattle.frame.specs.declared.Form.the-variants.{HeaderFree, Interleaved}
-use Rattle.frame.specs.declared.Refusal.{Refusal}
-use Rattle.frame.specs.declared.Refusal.the-variants.{NotApplicable, HeaderFreeLength}
+use Rattle.form.specs.declared.Form.{Form}
+use Rattle.form.specs.declared.Form.the-variants.{HeaderFree, Interleaved}
+use Rattle.answers.specs.declared.Refusal.{Refusal}
+use Rattle.answers.specs.declared.Refusal.the-variants.{NotApplicable, HeaderFreeLength}
 use Rattle.frame.specs.declared.Located.the-variants as located
-use Rattle.frame.proofs.PlaceLaws.{Laid, LaidIn, asked-refused, asked-past, asked}
+use Rattle.frame.proofs.PlacesLaws.{Laid, LaidIn, asked-refused, asked-past, asked}
 use Rattle.frame.specs.Entry.{typeOf}
-use Rattle.payload.specs.Payload.{Reading, packet, refused, Table, table, fault, toc, total, cut, bodies, interleaved, oneBody, readAs, lOf, nOf}
+use Rattle.payload.specs.Payload.{Reading, packet, refusedPayload, Toc, contents, fault, toc, total, cut, bodies, interleaved}
+use Rattle.payload.specs.Payload.{oneBody, readAs, lOf, nOf}
 use Rattle.payload.specs.Shown.{contentsOf, givenOf, givenAs}
 use Rattle.payload.specs.declared.Contents.the-variants.{Packet, Refused}
 use Rattle.payload.proofs.Tables.{Whole, Sound, toc-sound}
 use Rattle.payload.proofs.Checks.{length-cut}
 
 -- ---- sums of sizes
-total-suc : (v : Vocoder) (ts : List ℕ) (k : ℕ) → k < length ts → total v (take (suc k) ts) ≡ total v (take k ts) + size v (getD ts k 0)
+total-suc : (v : FrameTable) (ts : List ℕ) (k : ℕ) → k < length ts → total v (take (suc k) ts) ≡ total v (take k ts) + size v (getD ts k 0)
 total-suc v [] k h = absurd (omega arith)
 total-suc v (t ∷ ts) zero h = omega arith
 total-suc v (t ∷ ts) (suc k) h = let i = total-suc v ts k (le-of-suc-le-suc h) in omega arith
@@ -41,31 +42,32 @@ total-suc v (t ∷ ts) (suc k) h = let i = total-suc v ts k (le-of-suc-le-suc h)
 type-at : (p : List ℕ) (i : ℕ) → getD (map typeOf (drop 1 p)) i 0 ≡ typeOf (getD p (i + 1) 0)
 type-at p i = List·getD-map typeOf (drop 1 p) i 0 ∙ ap typeOf (getD-drop 1 p i 0 ∙ ap (λ (k : ℕ). getD p k 0) (add-comm 1 i))
 
-pub start-next : (v : Vocoder) (p : List ℕ) (i : ℕ) → i + 1 < length p → total v (take (i + 1) (map typeOf (drop 1 p))) ≡ total v (take i (map typeOf (drop 1 p))) + size v (typeOf (getD p (i + 1) 0))
+pub start-next : (v : FrameTable) (p : List ℕ) (i : ℕ) → i + 1 < length p →
+    total v (take (i + 1) (map typeOf (drop 1 p))) ≡ total v (take i (map typeOf (drop 1 p))) + size v (typeOf (getD p (i + 1) 0))
 start-next v p i h =
     rw (← type-at p i, add-one)
     (total-suc v (map typeOf (drop 1 p)) i (omega (arith, length-map (drop 1 p) typeOf, length-drop 1 p)))
 
 -- ---- the frames that are cut
-cut-type : (v : Vocoder) (ts bs : List ℕ) (k : ℕ) → frameAt (cut v ts bs) k .type ≡ getD ts k 0
+cut-type : (v : FrameTable) (ts bs : List ℕ) (k : ℕ) → frameAt (cut v ts bs) k .type ≡ getD ts k 0
 cut-type v [] bs k = refl
 cut-type v (t ∷ ts) bs zero = refl
 cut-type v (t ∷ ts) bs (suc k) = cut-type v ts (drop (size v t) bs) k
 
-cut-size : (v : Vocoder) (ts bs : List ℕ) (k : ℕ) → total v ts ≤ length bs → k < length ts → length (frameAt (cut v ts bs) k .body) ≡ size v (getD ts k 0)
+cut-size : (v : FrameTable) (ts bs : List ℕ) (k : ℕ) → total v ts ≤ length bs → k < length ts → length (frameAt (cut v ts bs) k .body) ≡ size v (getD ts k 0)
 cut-size v [] bs k h q = absurd (omega arith)
 cut-size v (t ∷ ts) bs zero h q = length-take-le (size v t) bs (omega arith)
 cut-size v (t ∷ ts) bs (suc k) h q =
     cut-size v ts (drop (size v t) bs) k (omega (arith, length-drop (size v t) bs)) (le-of-suc-le-suc q)
 
-cut-taken : (v : Vocoder) (ts bs : List ℕ) (k : ℕ) → total v ts ≤ length bs → taken 0 (take k (cut v ts bs)) ≡ total v (take k ts)
+cut-taken : (v : FrameTable) (ts bs : List ℕ) (k : ℕ) → total v ts ≤ length bs → taken 0 (take k (cut v ts bs)) ≡ total v (take k ts)
 cut-taken v ts bs zero h = refl
 cut-taken v [] bs (suc k) h = refl
 cut-taken v (t ∷ ts) bs (suc k) h =
     ap₂ _+_ (zero-add _ ∙ length-take-le (size v t) bs (omega arith))
     (cut-taken v ts (drop (size v t) bs) k (omega (arith, length-drop (size v t) bs)))
 
-cut-laid : (v : Vocoder) (ts : List ℕ) (p : List ℕ) (h : ℕ) → h + total v ts ≤ length p → Laid p h 0 (cut v ts (drop h p))
+cut-laid : (v : FrameTable) (ts : List ℕ) (p : List ℕ) (h : ℕ) → h + total v ts ≤ length p → Laid p h 0 (cut v ts (drop h p))
 cut-laid v [] p h q = tt
 cut-laid v (t ∷ ts) p h q =
     let n : length (take (size v t) (drop h p)) ≡ size v t = length-take-le (size v t) (drop h p) (omega (arith, length-drop h p)) in
@@ -76,12 +78,12 @@ cut-laid v (t ∷ ts) p h q =
     )
 
 -- ---- a payload that was read as a packet
-passed : (b : Bool) (r : Refusal) (x : Reading) (l n d : ℕ) (fs : List Frame) → cond b (refused r) x ≡ packet l n d fs → (b ≡ false) × (x ≡ packet l n d fs)
+passed : (b : Bool) (r : Refusal) (x : Reading) (l n d : ℕ) (fs : List Frame) → cond b (refusedPayload r) x ≡ packet l n d fs → (b ≡ false) × (x ≡ packet l n d fs)
 passed true r x l n d fs e = apart (cc)
 passed false r x l n d fs e = (refl, e)
 
 -- octet 0, the table of contents and the bodies that its frames were cut from
-pub record Framed (v : Vocoder) (m : Limits) (p : List ℕ) (l n d : ℕ) (fs : List Frame) : Type 0 where
+pub record Framed (v : FrameTable) (m : Limits) (p : List ℕ) (l n d : ℕ) (fs : List Frame) : Type 0 where
   pub head : ℕ
   pub es : List ℕ
   pub ts : List ℕ
@@ -92,15 +94,24 @@ pub record Framed (v : Vocoder) (m : Limits) (p : List ℕ) (l n d : ℕ) (fs : 
   pub n-is : nOf head ≡ n
   pub index : nOf head ≤ lOf head
   pub short : lOf head ≤ m .«max_l»
-  pub toc-is : toc v (m .«max_b») 0 es ≡ table ts d rest
+  pub toc-is : toc v (m .«max_b») 0 es ≡ contents ts d rest
   pub whole : Whole (m .«max_b») 0 es ts rest
   pub full : length rest ≡ total v ts
   pub frames : fs ≡ cut v ts rest
 
-framed-table : (v : Vocoder) (m : Limits) (l n d x : ℕ) (es : List ℕ) (fs : List Frame) → inRange m ≡ true → nOf x ≤ lOf x → lOf x ≤ m .«max_l» → (w : Table) → toc v (m .«max_b») 0 es ≡ w → Sound (m .«max_b») 0 es w → bodies v (lOf x) (nOf x) w ≡ packet l n d fs → Framed v m (x ∷ es) l n d fs
+framed-table :
+    (v : FrameTable) (m : Limits) (l n d x : ℕ) (es : List ℕ) (fs : List Frame) →
+    inRange m ≡ true →
+    nOf x ≤ lOf x →
+    lOf x ≤ m .«max_l» →
+    (w : Toc) →
+    toc v (m .«max_b») 0 es ≡ w →
+    Sound (m .«max_b») 0 es w →
+    bodies v (lOf x) (nOf x) w ≡ packet l n d fs →
+    Framed v m (x ∷ es) l n d fs
 unfolding bodies
 framed-table v m l n d x es fs g i s (fault r) q h e = apart (cc)
-framed-table v m l n d x es fs g i s (table ts d′ rest) q h e =
+framed-table v m l n d x es fs g i s (contents ts d′ rest) q h e =
     let a = passed (ltb (length rest) (total v ts)) _ _ l n d fs e in
     let b = passed (ltb (total v ts) (length rest)) _ _ l n d fs (a .1) in
     let z : d′ ≡ d = cc (b .1) in
@@ -115,13 +126,13 @@ framed-table v m l n d x es fs g i s (table ts d′ rest) q h e =
       n-is = cc (b .1);
       index = i;
       short = s;
-      toc-is = q ∙ ap (λ (y : ℕ). table ts y rest) z;
+      toc-is = q ∙ ap (λ (y : ℕ). contents ts y rest) z;
       whole = h;
       full = omega (arith, ltb-false (length rest) (total v ts) (a .0), ltb-false (total v ts) (length rest) (b .0));
       frames = cc (b .1);
     }
 
-pub framed : (v : Vocoder) (m : Limits) (p : List ℕ) (l n d : ℕ) (fs : List Frame) → readAs v (Interleaved m) p ≡ packet l n d fs → Framed v m p l n d fs
+pub framed : (v : FrameTable) (m : Limits) (p : List ℕ) (l n d : ℕ) (fs : List Frame) → readAs v (Interleaved m) p ≡ packet l n d fs → Framed v m p l n d fs
 unfolding readAs interleaved
 framed v m p l n d fs e = at-range (inRange m) refl e
   where
@@ -132,18 +143,18 @@ framed v m p l n d fs e = at-range (inRange m) refl e
         let b = passed (ltb (m .«max_l») (lOf x)) _ _ l n d fs (a .1) in
         framed-table v m l n d x es fs g (ltb-false _ _ (a .0)) (ltb-false _ _ (b .0)) (toc v (m .«max_b») 0 es) refl (toc-sound v (m .«max_b») 0 es) (b .1)
 
-    at-range : (b : Bool) → inRange m ≡ b → cond b (interleaved v m p) (refused NotApplicable) ≡ packet l n d fs → Framed v m p l n d fs
+    at-range : (b : Bool) → inRange m ≡ b → cond b (interleaved v m p) (refusedPayload NotApplicable) ≡ packet l n d fs → Framed v m p l n d fs
     at-range true g k = at-list g p k
     at-range false g k = apart (cc)
 
 -- its frames, of the types in the table of contents, lie one after the other behind that table and fill the payload
-record Filled (v : Vocoder) (p : List ℕ) (fs : List Frame) (ts : List ℕ) : Type 0 where
+record Filled (v : FrameTable) (p : List ℕ) (fs : List Frame) (ts : List ℕ) : Type 0 where
   frames : fs ≡ cut v ts (drop (1 + length ts) p)
   types : ts ≡ take (length ts) (map typeOf (drop 1 p))
   fills : 1 + length ts + total v ts ≡ length p
   many : length fs ≡ length ts
 
-module _ (v : Vocoder) (m : Limits) (p : List ℕ) (l n d : ℕ) (fs : List Frame) (o : Framed v m p l n d fs) where
+module _ (v : FrameTable) (m : Limits) (p : List ℕ) (l n d : ℕ) (fs : List Frame) (o : Framed v m p l n d fs) where
   filled : Filled v p fs (o .ts)
   filled =
       let h = o .whole in
@@ -167,16 +178,16 @@ module _ (v : Vocoder) (m : Limits) (p : List ℕ) (l n d : ℕ) (fs : List Fram
 abbrev pub typeIn : List ℕ → ℕ → ℕ
 typeIn p k = typeOf (getD p (k + 1) 0)
 
-abbrev pub before : Vocoder → List ℕ → ℕ → ℕ
+abbrev pub before : FrameTable → List ℕ → ℕ → ℕ
 before v p k = total v (take k (map typeOf (drop 1 p)))
 
-record Stands (v : Vocoder) (p : List ℕ) (fs : List Frame) (k : ℕ) : Type 0 where
+record Stands (v : FrameTable) (p : List ℕ) (fs : List Frame) (k : ℕ) : Type 0 where
   type : frameAt fs k .type ≡ typeIn p k
   start : taken 0 (take k fs) ≡ before v p k
   octets : length (frameAt fs k .body) ≡ size v (typeIn p k)
   entry : k + 1 < length p
 
-stands : (v : Vocoder) (m : Limits) (p : List ℕ) (l n d : ℕ) (fs : List Frame) (k : ℕ) → Framed v m p l n d fs → k < length fs → Stands v p fs k
+stands : (v : FrameTable) (m : Limits) (p : List ℕ) (l n d : ℕ) (fs : List Frame) (k : ℕ) → Framed v m p l n d fs → k < length fs → Stands v p fs k
 stands v m p l n d fs k o h =
     let x = filled v m p l n d fs o in
     let ts = o .ts in
@@ -187,7 +198,10 @@ stands v m p l n d fs k o h =
     let t : getD ts k 0 ≡ typeIn p k = ap (λ (q : List ℕ). getD q k 0) (x .types) ∙ getD-take (length ts) types k 0 h′ ∙ type-at p k in
     record {
       type = ap (λ (q : List Frame). frameAt q k .type) (x .frames) ∙ cut-type v ts bs k ∙ t;
-      start = ap (λ (q : List Frame). taken 0 (take k q)) (x .frames) ∙ cut-taken v ts bs k fit ∙ ap (λ (q : List ℕ). total v (take k q)) (x .types) ∙ ap (total v) (take-take k (length ts) types (omega arith));
+      start = ap (λ (q : List Frame). taken 0 (take k q)) (x .frames)
+          ∙ cut-taken v ts bs k fit
+          ∙ ap (λ (q : List ℕ). total v (take k q)) (x .types)
+          ∙ ap (total v) (take-take k (length ts) types (omega arith));
       octets = ap (λ (q : List Frame). length (frameAt q k .body)) (x .frames) ∙ cut-size v ts bs k fit h′ ∙ ap (size v) t;
       entry = omega (arith, x .fills, x .many);
     }
@@ -195,24 +209,24 @@ stands v m p l n d fs k o h =
 -- ---- frame k is asked of a type 1 payload
 pub show-refused : (f : Form) (w : Reading) (k : ℕ) (r : Refusal) → Refused r ≡ contentsOf w → located.Refused r ≡ locatedOf (givenOf f w) k
 unfolding contentsOf givenOf
-show-refused f (refused r′) k r e = let q : r ≡ r′ = cc in ap located.Refused q ∙ asked-refused r′ k
+show-refused f (refusedPayload r′) k r e = let q : r ≡ r′ = cc in ap located.Refused q ∙ asked-refused r′ k
 show-refused f (packet l n d fs) k r e = apart (cc)
 
 pub show-past : (f : Form) (w : Reading) (k l n b d : ℕ) → Packet l n b d ≡ contentsOf w → b ≤ k → located.Refused NotApplicable ≡ locatedOf (givenOf f w) k
 unfolding contentsOf givenOf
-show-past f (refused r) k l n b d e h = apart (cc)
+show-past f (refusedPayload r) k l n b d e h = apart (cc)
 show-past f (packet l′ n′ d′ fs) k l n b d e h = let q : b ≡ length fs = cc in asked-past _ _ fs k (omega arith)
 
-pub record Shows (v : Vocoder) (m : Limits) (p : List ℕ) (k b : ℕ) : Type 0 where
+pub record Shows (v : FrameTable) (m : Limits) (p : List ℕ) (k b : ℕ) : Type 0 where
   pub place : located.At (typeIn p k) (1 + b + before v p k) (size v (typeIn p k)) ≡ locatedOf (givenAs v (Interleaved m) p) k
   pub entry : k + 1 < length p
 
-pub shows : (v : Vocoder) (m : Limits) (p : List ℕ) (k l n b d : ℕ) → Packet l n b d ≡ contentsOf (readAs v (Interleaved m) p) → k < b → Shows v m p k b
+pub shows : (v : FrameTable) (m : Limits) (p : List ℕ) (k l n b d : ℕ) → Packet l n b d ≡ contentsOf (readAs v (Interleaved m) p) → k < b → Shows v m p k b
 unfolding contentsOf givenOf givenAs
 shows v m p k l n b d e h = go (readAs v (Interleaved m) p) refl e
   where
     go : (w : Reading) → readAs v (Interleaved m) p ≡ w → Packet l n b d ≡ contentsOf w → Shows v m p k b
-    go (refused r) q x = apart (cc)
+    go (refusedPayload r) q x = apart (cc)
     go (packet l′ n′ d′ fs) q x =
         let c : b ≡ length fs = cc in
         let h′ : k < length fs = omega arith in
@@ -224,11 +238,11 @@ shows v m p k l n b d e h = go (readAs v (Interleaved m) p) refl e
         }
 
 -- ---- frame k is asked of a type 2 payload
-pub free-refused : (v : Vocoder) (p : List ℕ) (k : ℕ) → rowOfSize v (length p) ≡ Missing → located.Refused HeaderFreeLength ≡ locatedOf (givenAs v HeaderFree p) k
+pub free-refused : (v : FrameTable) (p : List ℕ) (k : ℕ) → rowOfSize v (length p) ≡ Missing → located.Refused HeaderFreeLength ≡ locatedOf (givenAs v HeaderFree p) k
 unfolding readAs oneBody givenOf givenAs
 free-refused v p k e = rw e (asked-refused HeaderFreeLength k)
 
-module _ (v : Vocoder) (p : List ℕ) (k : ℕ) (r : Row) (e : rowOfSize v (length p) ≡ Found r) where
+module _ (v : FrameTable) (p : List ℕ) (k : ℕ) (r : Row) (e : rowOfSize v (length p) ≡ Found r) where
   pub free-past : 0 < k → located.Refused NotApplicable ≡ locatedOf (givenAs v HeaderFree p) k
   unfolding readAs oneBody givenOf givenAs
   free-past h = rw e (asked-past 0 0 _ k (omega arith))
@@ -243,12 +257,12 @@ unfolding givenOf oneBody
 free-laid Missing p = tt
 free-laid (Found r) p = (take-all (length p) p (omega arith), omega arith, tt)
 
-in-laid : (v : Vocoder) (m : Limits) (p : List ℕ) (w : Reading) → readAs v (Interleaved m) p ≡ w → LaidIn p (givenOf (Interleaved m) w)
+in-laid : (v : FrameTable) (m : Limits) (p : List ℕ) (w : Reading) → readAs v (Interleaved m) p ≡ w → LaidIn p (givenOf (Interleaved m) w)
 unfolding givenOf
-in-laid v m p (refused r) e = tt
+in-laid v m p (refusedPayload r) e = tt
 in-laid v m p (packet l n d fs) e = framed-laid v m p l n d fs (framed v m p l n d fs e)
 
-pub laid-as : (v : Vocoder) (f : Form) (p : List ℕ) → LaidIn p (givenAs v f p)
+pub laid-as : (v : FrameTable) (f : Form) (p : List ℕ) → LaidIn p (givenAs v f p)
 unfolding readAs givenAs
 laid-as v HeaderFree p = free-laid (rowOfSize v (length p)) p
 laid-as v (Interleaved m) p = in-laid v m p (readAs v (Interleaved m) p) refl

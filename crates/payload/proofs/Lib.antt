@@ -3,3 +3,4 @@ pub mod Tables
 pub mod Checks
 pub mod Laying
 pub mod Readings
+pub mod LayingOut

@@ -8,46 +8,50 @@ use lib.ListN.{length, drop, length-drop}
 use lib.Seq.{length-take-le}
 use lib.Dec.{T, eqb, leb}
 use Rattle.octets.proofs.Logic.{apart}
-use Rattle.frame.specs.Table.{Vocoder, Frame, known, size, rowWith, rowOfSize, single, AllListed}
-use Rattle.frame.specs.Entry.{typeOf, dOf, more}
-use Rattle.frame.specs.declared.Limits.{Limits}
+use Rattle.frame.specs.FrameTable.{FrameTable, Frame, known, size, rowWith, rowOfSize, single, AllListed}
+use Rattle.frame.specs.Entry.{typeOf, more}
+use Rattle.form.specs.declared.Limits.{Limits}
 use Rattle.frame.specs.declared.Lookup.{Lookup}
 use Rattle.frame.specs.declared.Lookup.the-variants.{Found, Missing}
-use Rattle.frame.specs.declared.Form.{Form}
-use Rattle.frame.specs.declared.Form.the-variants.{HeaderFree, Interleaved}
-use Rattle.frame.specs.declared.Refusal.the-variants.{TooManyFrames, ReservedType}
-use Rattle.frame.proofs.TableLaws.{size-listed}
-use Rattle.frame.proofs.AgreedLaws.{range-bounds}
-use Rattle.payload.specs.Payload.{packet, Table, table, fault, put, toc, total, cut, oneBody, readAs}
+use Rattle.form.specs.declared.Form.{Form}
+use Rattle.form.specs.declared.Form.the-variants.{HeaderFree, Interleaved}
+use Rattle.frame.proofs.FrameTableLaws.{size-listed}
+use Rattle.form.proofs.AgreedLaws.{range-bounds}
+use Rattle.payload.specs.Payload.{packet, Toc, contents, fault, put, toc, total, cut, oneBody, readAs}
+use Rattle.payload.proofs.Tables.{entryIf}
 use Rattle.payload.proofs.Laying.{Framed, framed}
 use Rattle.payload.proofs.Checks.{length-cut}
 
 -- ---- the types of a table of contents that was read are in the frame table
-abbrev TypesKnown : Vocoder → List ℕ → Type 0
+abbrev TypesKnown : FrameTable → List ℕ → Type 0
 TypesKnown v [] = Unit {0}
 TypesKnown v (t ∷ ts) = (known v t ≡ true) × TypesKnown v ts
 
-abbrev KnownIn : Vocoder → Table → Type 0
-KnownIn v (table ts d rest) = TypesKnown v ts
+abbrev KnownIn : FrameTable → Toc → Type 0
+KnownIn v (contents ts d rest) = TypesKnown v ts
 KnownIn v (fault r) = Unit {0}
 
-put-known : (v : Vocoder) (t : ℕ) (w : Table) → known v t ≡ true → KnownIn v w → KnownIn v (put t w)
-put-known v t (table ts d rest) k h = (k, h)
+put-known : (v : FrameTable) (t : ℕ) (w : Toc) → known v t ≡ true → KnownIn v w → KnownIn v (put t w)
+put-known v t (contents ts d rest) k h = (k, h)
 put-known v t (fault r) k h = tt
 
-entry-known : (v : Vocoder) (e : ℕ) (es : List ℕ) (w : Table) (full good on : Bool) → known v (typeOf e) ≡ good → KnownIn v w → KnownIn v (cond full (fault TooManyFrames) (cond good (cond on (put (typeOf e) w) (table (typeOf e ∷ []) (dOf e) es)) (fault ReservedType)))
+entry-known :
+    (v : FrameTable) (e : ℕ) (es : List ℕ) (w : Toc) (full good on : Bool) →
+    known v (typeOf e) ≡ good →
+    KnownIn v w →
+    KnownIn v (entryIf e es w full good on)
 entry-known v e es w true good on k h = tt
 entry-known v e es w false false on k h = tt
 entry-known v e es w false true true k h = put-known v (typeOf e) w k h
 entry-known v e es w false true false k h = (k, tt)
 
-toc-known : (v : Vocoder) (max at : ℕ) (es : List ℕ) → KnownIn v (toc v max at es)
+toc-known : (v : FrameTable) (max at : ℕ) (es : List ℕ) → KnownIn v (toc v max at es)
 unfolding toc
 toc-known v max at [] = tt
 toc-known v max at (e ∷ es) =
     entry-known v e es (toc v max (at + 1) es) (leb max at) (known v (typeOf e)) (more e) refl (toc-known v max (at + 1) es)
 
-cut-listed : (v : Vocoder) (ts bs : List ℕ) → TypesKnown v ts → total v ts ≤ length bs → AllListed v (cut v ts bs)
+cut-listed : (v : FrameTable) (ts bs : List ℕ) → TypesKnown v ts → total v ts ≤ length bs → AllListed v (cut v ts bs)
 cut-listed v [] bs k h = tt
 cut-listed v (t ∷ ts) bs k h = (
   record { type-known = k .0; octets = length-take-le (size v t) bs (omega arith) },
@@ -55,14 +59,14 @@ cut-listed v (t ∷ ts) bs k h = (
 )
 
 -- ---- L, N, B and the frames of a packet that was read
-pub record IsPacket (v : Vocoder) (l n : ℕ) (fs : List Frame) : Type 0 where
+pub record IsPacket (v : FrameTable) (l n : ℕ) (fs : List Frame) : Type 0 where
   pub length-small : l ≤ 7
   pub index-in : n ≤ l
   pub some : 0 < length fs
   pub few : length fs ≤ 10
   pub listed : AllListed v fs
 
-interleaved-is : (v : Vocoder) (m : Limits) (p : List ℕ) (l n d : ℕ) (fs : List Frame) → Framed v m p l n d fs → IsPacket v l n fs
+interleaved-is : (v : FrameTable) (m : Limits) (p : List ℕ) (l n d : ℕ) (fs : List Frame) → Framed v m p l n d fs → IsPacket v l n fs
 interleaved-is v m p l n d fs o =
     let k : TypesKnown v (o .ts) = subst (KnownIn v) (o .toc-is) (toc-known v (m .«max_b») 0 (o .es)) in
     let c : length fs ≡ length (o .ts) = ap length (o .frames) ∙ length-cut v (o .ts) (o .rest) in
@@ -75,7 +79,7 @@ interleaved-is v m p l n d fs o =
       listed = subst (AllListed v) (sym (o .frames)) (cut-listed v (o .ts) (o .rest) k (omega (arith, o .full)));
     }
 
-one-is : (v : Vocoder) (p : List ℕ) → T (single v v) → (w : Lookup) → rowOfSize v (length p) ≡ w → (l n d : ℕ) (fs : List Frame) → oneBody w p ≡ packet l n d fs → IsPacket v l n fs
+one-is : (v : FrameTable) (p : List ℕ) → T (single v v) → (w : Lookup) → rowOfSize v (length p) ≡ w → (l n d : ℕ) (fs : List Frame) → oneBody w p ≡ packet l n d fs → IsPacket v l n fs
 unfolding oneBody
 one-is v p s Missing q l n d fs e = apart (cc)
 one-is v p s (Found r) q l n d fs e =
@@ -96,7 +100,7 @@ one-is v p s (Found r) q l n d fs e =
     with-row true h = apart (cc)
     with-row false h = h
 
-pub read-is : (v : Vocoder) → T (single v v) → (f : Form) (p : List ℕ) (l n d : ℕ) (fs : List Frame) → readAs v f p ≡ packet l n d fs → IsPacket v l n fs
+pub read-is : (v : FrameTable) → T (single v v) → (f : Form) (p : List ℕ) (l n d : ℕ) (fs : List Frame) → readAs v f p ≡ packet l n d fs → IsPacket v l n fs
 unfolding readAs
 read-is v s HeaderFree p l n d fs e = one-is v p s (rowOfSize v (length p)) refl l n d fs e
 read-is v s (Interleaved m) p l n d fs e = interleaved-is v m p l n d fs (framed v m p l n d fs e)

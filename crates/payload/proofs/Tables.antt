@@ -7,13 +7,13 @@ use native.Mathlib.Omega.{arith}
 use lib.ListN.{length, take, drop, length-drop}
 use lib.Dec.{leb}
 use borrow.Author.Tests.{leb-false}
-use Rattle.frame.specs.Table.{Vocoder, known}
-use Rattle.frame.specs.declared.Refusal.the-variants.{TooManyFrames, ReservedType}
+use Rattle.frame.specs.FrameTable.{FrameTable, known}
+use Rattle.answers.specs.declared.Refusal.the-variants.{TooManyFrames, ReservedType}
 use Rattle.octets.proofs.Logic.{apart}
 use Rattle.frame.specs.Entry.{typeOf, dOf, more}
-use Rattle.payload.specs.Payload.{Table, table, fault, put, toc, total}
-use Rattle.payload.specs.Shown.{entriesOf}
-use Rattle.payload.specs.declared.Entries.the-variants as entries
+use Rattle.payload.specs.Payload.{Toc, contents, fault, put, toc, total}
+use Rattle.payload.specs.Shown.{walked}
+use Rattle.payload.specs.declared.Walked.the-variants as entries
 
 -- the types are those of the first entries, the rest is what follows them, there are some and not too many
 pub record Whole (max at : ℕ) (es ts rest : List ℕ) : Type 0 where
@@ -23,12 +23,12 @@ pub record Whole (max at : ℕ) (es ts rest : List ℕ) : Type 0 where
   pub types : ts ≡ take (length ts) (map typeOf es)
   pub follow : rest ≡ drop (length ts) es
 
-abbrev pub Sound : ℕ → ℕ → List ℕ → Table → Type 0
-Sound max at es (table ts d rest) = Whole max at es ts rest
+abbrev pub Sound : ℕ → ℕ → List ℕ → Toc → Type 0
+Sound max at es (contents ts d rest) = Whole max at es ts rest
 Sound max at es (fault r) = Unit {0}
 
-put-sound : (max at e : ℕ) (es : List ℕ) (w : Table) → Sound max (at + 1) es w → Sound max at (e ∷ es) (put (typeOf e) w)
-put-sound max at e es (table ts d rest) h =
+put-sound : (max at e : ℕ) (es : List ℕ) (w : Toc) → Sound max (at + 1) es w → Sound max at (e ∷ es) (put (typeOf e) w)
+put-sound max at e es (contents ts d rest) h =
     record {
       some = omega arith;
       few = omega (arith, h .few);
@@ -38,7 +38,17 @@ put-sound max at e es (table ts d rest) h =
     }
 put-sound max at e es (fault r) h = tt
 
-entry-sound : (max at e : ℕ) (es : List ℕ) (w : Table) (full good on : Bool) → (full ≡ false → at < max) → Sound max (at + 1) es w → Sound max at (e ∷ es) (cond full (fault TooManyFrames) (cond good (cond on (put (typeOf e) w) (table (typeOf e ∷ []) (dOf e) es)) (fault ReservedType)))
+-- the table that begins with entry e, by whether it is full already, the type is good, and another entry follows
+abbrev pub entryIf : ℕ → List ℕ → Toc → Bool → Bool → Bool → Toc
+entryIf e es w full good on =
+    let rest = cond on (put (typeOf e) w) (contents (typeOf e ∷ []) (dOf e) es) in
+    cond full (fault TooManyFrames) (cond good rest (fault ReservedType))
+
+entry-sound :
+    (max at e : ℕ) (es : List ℕ) (w : Toc) (full good on : Bool) →
+    (full ≡ false → at < max) →
+    Sound max (at + 1) es w →
+    Sound max at (e ∷ es) (entryIf e es w full good on)
 entry-sound max at e es w true good on f h = tt
 entry-sound max at e es w false false on f h = tt
 entry-sound max at e es w false true true f h = put-sound max at e es w h
@@ -46,7 +56,7 @@ entry-sound max at e es w false true false f h =
     let m = f refl in
     record { some = omega arith; few = omega arith; within = omega arith; types = refl; follow = refl }
 
-pub toc-sound : (v : Vocoder) (max at : ℕ) (es : List ℕ) → Sound max at es (toc v max at es)
+pub toc-sound : (v : FrameTable) (max at : ℕ) (es : List ℕ) → Sound max at es (toc v max at es)
 unfolding toc
 toc-sound v max at [] = tt
 toc-sound v max at (e ∷ es) =
@@ -54,26 +64,26 @@ toc-sound v max at (e ∷ es) =
     (toc-sound v max (at + 1) es)
 
 -- the walk yielded a table: so there is one, and these are its numbers
-pub record Counted (v : Vocoder) (max : ℕ) (es : List ℕ) (w : Table) (c s d : ℕ) : Type 0 where
+pub record Counted (v : FrameTable) (max : ℕ) (es : List ℕ) (w : Toc) (c s d : ℕ) : Type 0 where
   pub ts : List ℕ
   pub rest : List ℕ
-  pub is : w ≡ table ts d rest
+  pub is : w ≡ contents ts d rest
   pub count : c ≡ length ts
   pub octets : s ≡ total v ts
   pub left : length rest ≡ length es - c
   pub few : c ≤ max
   pub within : c ≤ length es
 
-counted-table : (v : Vocoder) (max : ℕ) (es : List ℕ) (w : Table) (c s d : ℕ) → Sound max 0 es w → entries.Table c s d ≡ entriesOf v w → Counted v max es w c s d
-unfolding entriesOf
+counted-table : (v : FrameTable) (max : ℕ) (es : List ℕ) (w : Toc) (c s d : ℕ) → Sound max 0 es w → entries.Whole c s d ≡ walked v w → Counted v max es w c s d
+unfolding walked
 counted-table v max es (fault r) c s d h e = apart (cc)
-counted-table v max es (table ts d′ rest) c s d h e =
+counted-table v max es (contents ts d′ rest) c s d h e =
     let q : c ≡ length ts = cc in
     let k : d′ ≡ d = cc in
     record {
       ts = ts;
       rest = rest;
-      is = ap (λ (x : ℕ). table ts x rest) k;
+      is = ap (λ (x : ℕ). contents ts x rest) k;
       count = q;
       octets = cc;
       left = ap length (h .follow) ∙ length-drop (length ts) es ∙ ap (λ (x : ℕ). length es - x) (sym q);
@@ -81,5 +91,5 @@ counted-table v max es (table ts d′ rest) c s d h e =
       within = omega (arith, h .within);
     }
 
-pub counted : (v : Vocoder) (max : ℕ) (es : List ℕ) (c s d : ℕ) → entries.Table c s d ≡ entriesOf v (toc v max 0 es) → Counted v max es (toc v max 0 es) c s d
+pub counted : (v : FrameTable) (max : ℕ) (es : List ℕ) (c s d : ℕ) → entries.Whole c s d ≡ walked v (toc v max 0 es) → Counted v max es (toc v max 0 es) c s d
 counted v max es c s d e = counted-table v max es (toc v max 0 es) c s d (toc-sound v max 0 es) e

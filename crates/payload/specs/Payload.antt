@@ -4,16 +4,16 @@ use mathlib.Core.List.{List, [], _∷_}
 use mathlib.Core.Bool.{cond}
 use lib.Dec.{leb, ltb}
 use lib.ListN.{length, take, drop}
-use Rattle.frame.specs.Table.{Vocoder, Frame, known, size, rowOfSize}
+use Rattle.frame.specs.FrameTable.{FrameTable, Frame, known, size, rowOfSize}
 use Rattle.frame.specs.Entry.{typeOf, dOf, more}
-use Rattle.frame.specs.Agreed.{inRange}
-use Rattle.frame.specs.declared.Limits.{Limits}
+use Rattle.form.specs.Agreed.{inRange}
+use Rattle.form.specs.declared.Limits.{Limits}
 use Rattle.frame.specs.declared.Lookup.{Lookup}
 use Rattle.frame.specs.declared.Lookup.the-variants.{Found, Missing}
-use Rattle.frame.specs.declared.Form.{Form}
-use Rattle.frame.specs.declared.Form.the-variants.{HeaderFree, Interleaved}
-use Rattle.frame.specs.declared.Refusal.{Refusal}
-use Rattle.frame.specs.declared.Refusal.the-variants.{
+use Rattle.form.specs.declared.Form.{Form}
+use Rattle.form.specs.declared.Form.the-variants.{HeaderFree, Interleaved}
+use Rattle.answers.specs.declared.Refusal.{Refusal}
+use Rattle.answers.specs.declared.Refusal.the-variants.{
   NoOctet,
   IndexPastLength,
   LengthPastMaximum,
@@ -29,7 +29,7 @@ use Rattle.frame.specs.declared.Refusal.the-variants.{
 -- what a payload is read as: L, N, D and the frames, or the refusal
 pub data Reading : Type 0 where
   packet : (l n d : ℕ) → List Frame → Reading
-  refused : Refusal → Reading
+  refusedPayload : Refusal → Reading
 
 -- "Octet 0 is RR x 64 + L x 8 + N. RR is .. ignored when read."
 abbrev pub lOf : ℕ → ℕ
@@ -40,56 +40,56 @@ abbrev pub nOf : ℕ → ℕ
 nOf h = h % 8
 
 -- a table of contents: the types, "the last entry's" D, and the octets behind it; or the fault
-pub data Table : Type 0 where
-  table : (types : List ℕ) (d : ℕ) (rest : List ℕ) → Table
-  fault : Refusal → Table
+pub data Toc : Type 0 where
+  contents : (types : List ℕ) (d : ℕ) (rest : List ℕ) → Toc
+  fault : Refusal → Toc
 
 -- a table with a type before its others; a fault stays one
-abbrev pub put : ℕ → Table → Table
-put t (table ts d rest) = table (t ∷ ts) d rest
+abbrev pub put : ℕ → Toc → Toc
+put t (contents ts d rest) = contents (t ∷ ts) d rest
 put t (fault r) = fault r
 
 -- the table of contents at the front of a list, with `at` entries before it and at most `max` in all:
 -- "ends at the first fault it meets"; "for each entry the order is 4, 6, 5"
-unfoldable pub toc : Vocoder → ℕ → ℕ → List ℕ → Table
+unfoldable pub toc : FrameTable → ℕ → ℕ → List ℕ → Toc
 toc v max at [] = fault TableCut
 toc v max at (e ∷ es) =
     cond (leb max at) (fault TooManyFrames)
     (cond (known v (typeOf e))
-    (cond (more e) (put (typeOf e) (toc v max (at + 1) es)) (table (typeOf e ∷ []) (dOf e) es))
+    (cond (more e) (put (typeOf e) (toc v max (at + 1) es)) (contents (typeOf e ∷ []) (dOf e) es))
     (fault ReservedType))
 
 -- the octets that the bodies of these types take
-abbrev pub total : Vocoder → List ℕ → ℕ
+abbrev pub total : FrameTable → List ℕ → ℕ
 total v [] = 0
 total v (t ∷ ts) = size v t + total v ts
 
 -- "Then the bodies, in the entries' order."
-abbrev pub cut : Vocoder → List ℕ → List ℕ → List Frame
+abbrev pub cut : FrameTable → List ℕ → List ℕ → List Frame
 cut v [] bs = []
 cut v (t ∷ ts) bs = record { type = t; body = take (size v t) bs } ∷ cut v ts (drop (size v t) bs)
 
 -- "After the last entry: 7, 8."
-unfoldable pub bodies : Vocoder → ℕ → ℕ → Table → Reading
-bodies v l n (fault r) = refused r
-bodies v l n (table ts d rest) =
-    cond (ltb (length rest) (total v ts)) (refused BodiesCut)
-    (cond (ltb (total v ts) (length rest)) (refused OctetsLeft) (packet l n d (cut v ts rest)))
+unfoldable pub bodies : FrameTable → ℕ → ℕ → Toc → Reading
+bodies v l n (fault r) = refusedPayload r
+bodies v l n (contents ts d rest) =
+    cond (ltb (length rest) (total v ts)) (refusedPayload BodiesCut)
+    (cond (ltb (total v ts) (length rest)) (refusedPayload OctetsLeft) (packet l n d (cut v ts rest)))
 
 -- Type 1, under maxima in range: 1, 2, 3, then the table of contents and the bodies
-unfoldable pub interleaved : Vocoder → Limits → List ℕ → Reading
-interleaved v m [] = refused NoOctet
+unfoldable pub interleaved : FrameTable → Limits → List ℕ → Reading
+interleaved v m [] = refusedPayload NoOctet
 interleaved v m (h ∷ es) =
-    cond (ltb (lOf h) (nOf h)) (refused IndexPastLength)
-    (cond (ltb (m .«max_l») (lOf h)) (refused LengthPastMaximum)
+    cond (ltb (lOf h) (nOf h)) (refusedPayload IndexPastLength)
+    (cond (ltb (m .«max_l») (lOf h)) (refusedPayload LengthPastMaximum)
     (bodies v (lOf h) (nOf h) (toc v (m .«max_b») 0 es)))
 
 -- Type 2: "one body and nothing else, its type known by the length"; "read as a group with L = 0, N = 0, B = 1, and D is reported as 0"
 unfoldable pub oneBody : Lookup → List ℕ → Reading
-oneBody Missing p = refused HeaderFreeLength
+oneBody Missing p = refusedPayload HeaderFreeLength
 oneBody (Found r) p = packet 0 0 0 (record { type = r .kind; body = p } ∷ [])
 
 -- a payload read in the agreed form; "a reader given maxima out of range answers 21 first"
-unfoldable pub readAs : Vocoder → Form → List ℕ → Reading
+unfoldable pub readAs : FrameTable → Form → List ℕ → Reading
 readAs v HeaderFree p = oneBody (rowOfSize v (length p)) p
-readAs v (Interleaved m) p = cond (inRange m) (interleaved v m p) (refused NotApplicable)
+readAs v (Interleaved m) p = cond (inRange m) (interleaved v m p) (refusedPayload NotApplicable)

@@ -1,20 +1,24 @@
 // Reads payloads (document 01, "Payloads"): octet 0, the table of contents, the bodies; or one body and nothing else.
-use frame::Form;
-use frame::Limits;
+use answers::Refusal;
+use bundle::Bundle;
+use form::Form;
+use form::Limits;
+use form::Opened;
 use frame::Located;
 use frame::Lookup;
-use frame::Opened;
-use frame::Refusal;
+use frame::Vocoder;
 ghost use mathlib.Core.Path.{_≡_};
 ghost use Prim.Native.Nat.{_+_, _<_};
 ghost use mathlib.Core.List.{map};
 ghost use lib.ListN.{length, drop, take};
-ghost use Rattle.frame.specs.Table.{evrc};
-ghost use Rattle.frame.specs.Places.{locatedOf, bodyOf, startOf, VeryPart};
-ghost use Rattle.frame.specs.declared.Form.the-variants.{HeaderFree, Interleaved};
+ghost use Rattle.bundle.specs.LaidOut.{laid};
+ghost use Rattle.form.specs.declared.Form.the-variants.{HeaderFree, Interleaved};
 ghost use Rattle.frame.specs.Entry.{typeOf};
+ghost use Rattle.frame.specs.FrameTable.{rowsOf};
+ghost use Rattle.form.specs.Agreed.{tableOf};
+ghost use Rattle.frame.specs.Places.{locatedOf, bodyOf, startOf, VeryPart};
 ghost use Rattle.payload.specs.Payload.{readAs, interleaved, toc, total};
-ghost use Rattle.payload.specs.Shown.{contentsOf, entriesOf, givenAs};
+ghost use Rattle.payload.specs.Shown.{contentsOf, walked, givenAs, framesRead};
 
 // What a payload holds: L, N, B and D, or the refusal.
 pub enum Contents {
@@ -24,14 +28,14 @@ pub enum Contents {
 
 // What the walk over a table of contents yields: the count of the entries, the size of their bodies and the last entry's D,
 // or the refusal.
-pub enum Entries {
-    Table { count: usize, size: usize, d: u8 },
+pub enum Walked {
+    Whole { count: usize, size: usize, d: u8 },
     Fault(Refusal),
 }
 
 // The walk over the table of contents, which ends at the first fault it meets.
-fn walk(max_b: u8, payload: &[u8]) -> Entries
-    ensures { λ r. ⌜ r ≡ entriesOf evrc (toc evrc «max_b» 0 (drop 1 (now (payload .entry)))) ⌝ }
+fn walk(vocoder: Vocoder, max_b: u8, payload: &[u8]) -> Walked
+    ensures { λ r. ⌜ r ≡ walked (rowsOf vocoder) (toc (rowsOf vocoder) «max_b» 0 (drop 1 (now (payload .entry)))) ⌝ }
 {
     let max = max_b as usize;
     let mut count: usize = 0;
@@ -39,22 +43,22 @@ fn walk(max_b: u8, payload: &[u8]) -> Entries
     'entries: loop {
         let at = count + 1;
         if payload.len() <= at {
-            break 'entries Entries::Fault(Refusal::TableCut);
+            break 'entries Walked::Fault(Refusal::TableCut);
         }
         if max <= count {
-            break 'entries Entries::Fault(Refusal::TooManyFrames);
+            break 'entries Walked::Fault(Refusal::TooManyFrames);
         }
         let entry = payload[at];
-        let found = frame::row_of(entry % 64);
+        let found = frame::row_of(vocoder, entry % 64);
         match found {
             Lookup::Missing => {
-                break 'entries Entries::Fault(Refusal::ReservedType);
+                break 'entries Walked::Fault(Refusal::ReservedType);
             }
             Lookup::Found(row) => {
                 size = size + row.octets;
                 count = at;
                 if entry < 128 {
-                    break 'entries Entries::Table {
+                    break 'entries Walked::Whole {
                         count,
                         size,
                         d: entry / 64 % 2,
@@ -66,8 +70,8 @@ fn walk(max_b: u8, payload: &[u8]) -> Entries
 }
 
 // Type 1, under limits that are in range: octet 0, then the walk, then the bodies.
-fn read_within(limits: Limits, payload: &[u8]) -> Contents
-    ensures { λ r. ⌜ r ≡ contentsOf (interleaved evrc limits (now (payload .entry))) ⌝ }
+fn read_within(vocoder: Vocoder, limits: Limits, payload: &[u8]) -> Contents
+    ensures { λ r. ⌜ r ≡ contentsOf (interleaved (rowsOf vocoder) limits (now (payload .entry))) ⌝ }
 {
     if payload.len() < 1 {
         return Contents::Refused(Refusal::NoOctet);
@@ -81,10 +85,10 @@ fn read_within(limits: Limits, payload: &[u8]) -> Contents
     if limits.max_l < l {
         return Contents::Refused(Refusal::LengthPastMaximum);
     }
-    let entries = walk(limits.max_b, payload);
+    let entries = walk(vocoder, limits.max_b, payload);
     match entries {
-        Entries::Fault(r) => Contents::Refused(r),
-        Entries::Table { count, size, d } => {
+        Walked::Fault(r) => Contents::Refused(r),
+        Walked::Whole { count, size, d } => {
             let left = payload.len() - 1 - count;
             if left < size {
                 return Contents::Refused(Refusal::BodiesCut);
@@ -99,21 +103,21 @@ fn read_within(limits: Limits, payload: &[u8]) -> Contents
 }
 
 // Type 1: limits out of range are refused first.
-fn read_interleaved(limits: Limits, payload: &[u8]) -> Contents
-    ensures { λ r. ⌜ r ≡ contentsOf (readAs evrc (Interleaved limits) (now (payload .entry))) ⌝ }
+fn read_interleaved(vocoder: Vocoder, limits: Limits, payload: &[u8]) -> Contents
+    ensures { λ r. ⌜ r ≡ contentsOf (readAs (rowsOf vocoder) (Interleaved limits) (now (payload .entry))) ⌝ }
 {
     let opened = Limits::open(limits.max_l, limits.max_b);
     match opened {
         Opened::Refused(r) => Contents::Refused(r),
-        Opened::Agreed(agreed) => read_within(agreed, payload),
+        Opened::Agreed(agreed) => read_within(vocoder, agreed, payload),
     }
 }
 
 // Type 2: read as a group with L = 0, N = 0, B = 1, and D is reported as 0.
-fn read_header_free(payload: &[u8]) -> Contents
-    ensures { λ r. ⌜ r ≡ contentsOf (readAs evrc HeaderFree (now (payload .entry))) ⌝ }
+fn read_header_free(vocoder: Vocoder, payload: &[u8]) -> Contents
+    ensures { λ r. ⌜ r ≡ contentsOf (readAs (rowsOf vocoder) HeaderFree (now (payload .entry))) ⌝ }
 {
-    let found = frame::row_of_size(payload.len());
+    let found = frame::row_of_size(vocoder, payload.len());
     match found {
         Lookup::Missing => Contents::Refused(Refusal::HeaderFreeLength),
         Lookup::Found(_) => Contents::Packet {
@@ -127,34 +131,34 @@ fn read_header_free(payload: &[u8]) -> Contents
 
 // What a payload holds, read in the agreed form.
 pub fn read(form: Form, payload: &[u8]) -> Contents
-    ensures { λ r. ⌜ r ≡ contentsOf (readAs evrc form (now (payload .entry))) ⌝ }
+    ensures { λ r. ⌜ r ≡ contentsOf (readAs (tableOf form) form (now (payload .entry))) ⌝ }
 {
     match form {
-        Form::HeaderFree => read_header_free(payload),
-        Form::Interleaved(limits) => read_interleaved(limits, payload),
+        Form::HeaderFree => read_header_free(Vocoder::Evrc, payload),
+        Form::Interleaved(limits) => read_interleaved(Vocoder::Evrc, limits, payload),
     }
 }
 
 // The start of body k: behind octet 0, the b entries, and the bodies before it.
-fn body_start(payload: &[u8], b: u8, k: usize) -> usize
+fn body_start(vocoder: Vocoder, payload: &[u8], b: u8, k: usize) -> usize
     requires { ⌜ (k < 256) × (k < length (now payload)) ⌝ }
-    ensures { λ r. ⌜ r ≡ 1 + b + total evrc (take k (map typeOf (drop 1 (now (payload .entry))))) ⌝ }
+    ensures { λ r. ⌜ r ≡ 1 + b + total (rowsOf vocoder) (take k (map typeOf (drop 1 (now (payload .entry))))) ⌝ }
 {
     let mut start = 1 + b as usize;
     let mut i: usize = 0;
     while i < k {
         let at = i + 1;
-        start = start + frame::body_size(payload[at] % 64);
+        start = start + frame::body_size(vocoder, payload[at] % 64);
         i = at;
     }
     start
 }
 
 // Frame k of a type 1 payload.
-fn locate_interleaved(limits: Limits, payload: &[u8], k: usize) -> Located
-    ensures { λ r. ⌜ r ≡ locatedOf (givenAs evrc (Interleaved limits) (now (payload .entry))) k ⌝ }
+fn locate_interleaved(vocoder: Vocoder, limits: Limits, payload: &[u8], k: usize) -> Located
+    ensures { λ r. ⌜ r ≡ locatedOf (givenAs (rowsOf vocoder) (Interleaved limits) (now (payload .entry))) k ⌝ }
 {
-    let held = read_interleaved(limits, payload);
+    let held = read_interleaved(vocoder, limits, payload);
     match held {
         Contents::Refused(r) => Located::Refused(r),
         Contents::Packet {
@@ -169,18 +173,18 @@ fn locate_interleaved(limits: Limits, payload: &[u8], k: usize) -> Located
             }
             let at = k + 1;
             let kind = payload[at] % 64;
-            let start = body_start(payload, b, k);
-            let size = frame::body_size(kind);
+            let start = body_start(vocoder, payload, b, k);
+            let size = frame::body_size(vocoder, kind);
             Located::At { kind, start, size }
         }
     }
 }
 
 // Frame k of a header-free payload: it has one.
-fn locate_header_free(payload: &[u8], k: usize) -> Located
-    ensures { λ r. ⌜ r ≡ locatedOf (givenAs evrc HeaderFree (now (payload .entry))) k ⌝ }
+fn locate_header_free(vocoder: Vocoder, payload: &[u8], k: usize) -> Located
+    ensures { λ r. ⌜ r ≡ locatedOf (givenAs (rowsOf vocoder) HeaderFree (now (payload .entry))) k ⌝ }
 {
-    let found = frame::row_of_size(payload.len());
+    let found = frame::row_of_size(vocoder, payload.len());
     match found {
         Lookup::Missing => Located::Refused(Refusal::HeaderFreeLength),
         Lookup::Found(row) => {
@@ -198,17 +202,46 @@ fn locate_header_free(payload: &[u8], k: usize) -> Located
 
 // Where frame k of a payload lies; 21 where k is not below the frame count.
 pub fn locate(form: Form, payload: &[u8], k: usize) -> Located
-    ensures { λ r. ⌜ r ≡ locatedOf (givenAs evrc form (now (payload .entry))) k ⌝ }
+    ensures { λ r. ⌜ r ≡ locatedOf (givenAs (tableOf form) form (now (payload .entry))) k ⌝ }
 {
     match form {
-        Form::HeaderFree => locate_header_free(payload, k),
-        Form::Interleaved(limits) => locate_interleaved(limits, payload, k),
+        Form::HeaderFree => locate_header_free(Vocoder::Evrc, payload, k),
+        Form::Interleaved(limits) => locate_interleaved(Vocoder::Evrc, limits, payload, k),
     }
 }
 
 // The body of frame k: the very part of the payload where it lies; empty on a refusal.
 pub fn body(form: Form, payload: &[u8], k: usize) -> &[u8]
-    ensures { λ r. ⌜ VeryPart (payload .entry) (startOf (locatedOf (givenAs evrc form (now (payload .entry))) k)) (bodyOf (givenAs evrc form (now (payload .entry))) k) r ⌝ }
+    ensures { λ r. ⌜ VeryPart (payload .entry) (startOf (locatedOf (givenAs (tableOf form) form (now (payload .entry))) k)) (bodyOf (givenAs (tableOf form) form (now (payload .entry))) k) r ⌝ }
 {
     frame::part(payload, locate(form, payload, k))
+}
+
+// The frames of a payload laid out as a packet; none where the payload is refused.
+pub fn lay_out(form: Form, payload: &[u8]) -> Bundle
+    ensures { λ r. ⌜ r ≡ laid (framesRead (readAs (tableOf form) form (now (payload .entry)))) ⌝ }
+{
+    let blank = bundle::not_held();
+    let mut marks = blank.marks;
+    let mut room = blank.room;
+    let mut k: usize = 0;
+    'frames: loop {
+        let place = locate(form, payload, k);
+        match place {
+            Located::Refused(_) => {
+                break 'frames;
+            }
+            Located::At {
+                kind,
+                start: _,
+                size: _,
+            } => {
+                marks[k] = kind;
+                let body = frame::part(payload, place);
+                octets::copy(&mut room, 22 * k, body);
+                k = k + 1;
+            }
+        }
+    }
+    Bundle { marks, room }
 }

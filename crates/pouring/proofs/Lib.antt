@@ -1,1 +1,1 @@
-pub mod PourLaws
+pub mod PouringLaws

@@ -1,20 +1,23 @@
 // Sessions (document 01, "Session"): open, offer, pour, copy out, end. A session is carried by value.
-use frame::Form;
-use frame::Limits;
-use frame::Opened;
-use frame::Refusal;
-use frame::Written;
-use holding::Answer;
+use answers::Answer;
+use answers::Refusal;
+use answers::Written;
+use bundle::Bundle;
+use form::Form;
+use form::Limits;
+use form::Opened;
 use holding::Holding;
-use holding::Packet;
+use numbers::Before;
+use numbers::GroupNumbers;
+use numbers::Verdict;
 use payload::Contents;
 ghost use mathlib.Core.Path.{_≡_};
 ghost use Prim.Native.Nat.{_<_};
-ghost use Rattle.frame.specs.Table.{evrc};
-ghost use Rattle.frame.specs.Outputs.{Writes};
-ghost use Rattle.session.specs.Session.{vacant, never, formRight, opening, lastRight, groupRight, isOpen, refuse};
-ghost use Rattle.session.specs.Session.{accept, withGroup, sameBase, inGroup, begins, noGroup, placed, offered};
-ghost use Rattle.session.specs.Session.{pourMade, ended, afterPour, noCopy, copied};
+ghost use Rattle.answers.specs.Outputs.{Writes};
+ghost use Rattle.form.specs.Agreed.{tableOf};
+ghost use Rattle.session.specs.Session.{vacant, neverOpened, formRight, openedFor, lastRight, groupRight, isOpen, refuse};
+ghost use Rattle.session.specs.Session.{accept, withGroup, lastNumbers, groupBefore, begins, belongs, placed, received};
+ghost use Rattle.session.specs.Session.{offered, pourMade, ended, afterPour, noCopy, copied};
 
 // A session: the source and the agreed form it was opened for, the group it holds (a holding of nothing if it holds none), and
 // the numbers of the last group it poured, if it poured one.
@@ -29,14 +32,11 @@ pub struct Session {
     pub last_b: u8,
 }
 
-// A packet that was read, with the base numbers of its group.
+// A packet that was read, with the numbers of its group.
 pub struct Arrival {
-    pub sequence: u16,
-    pub timestamp: u32,
-    pub l: u8,
+    pub numbers: GroupNumbers,
     pub n: u8,
-    pub b: u8,
-    pub packet: Packet,
+    pub packet: Bundle,
 }
 
 // What an offer answers: accepted, with the lost frames before it, or the refusal.
@@ -67,10 +67,10 @@ pub struct Copied {
 }
 
 // A session that holds no group and remembers none.
-fn blank(open: bool, source: u32, form: Form) -> Session
+fn vacant(open: bool, source: u32, form: Form) -> Session
     ensures { λ r. ⌜ r ≡ vacant «open» source form ⌝ }
 {
-    let group = holding::empty();
+    let group = holding::nothing();
     Session {
         open,
         source,
@@ -84,10 +84,10 @@ fn blank(open: bool, source: u32, form: Form) -> Session
 }
 
 // A session never opened.
-pub fn closed() -> Session
-    ensures { λ r. ⌜ r ≡ never ⌝ }
+pub fn never_opened() -> Session
+    ensures { λ r. ⌜ r ≡ neverOpened ⌝ }
 {
-    blank(false, 0, Form::HeaderFree)
+    vacant(false, 0, Form::HeaderFree)
 }
 
 // Whether the maxima of a form are in range.
@@ -108,11 +108,11 @@ fn is_form_right(form: Form) -> bool
 
 // Opens a session for a source, in the agreed form: fresh, whatever it was before; 21 if a maximum is out of range.
 pub fn open(session: Session, source: u32, form: Form) -> Started
-    ensures { λ r. ⌜ r ≡ opening session source form ⌝ }
+    ensures { λ r. ⌜ r ≡ openedFor session source form ⌝ }
 {
     let right = is_form_right(form);
     if right {
-        let begun = blank(true, source, form);
+        let begun = vacant(true, source, form);
         Started {
             answer: Answer::Done,
             session: begun,
@@ -143,10 +143,10 @@ fn is_last_right(session: Session) -> bool
 
 // Whether the held group keeps the rule of a holding, holds a packet and names the session's source, if there is one.
 fn is_group_right(session: Session) -> bool
-    ensures { λ r. ⌜ r ≡ groupRight evrc session ⌝ }
+    ensures { λ r. ⌜ r ≡ groupRight (tableOf (session .form)) session ⌝ }
 {
     let group = session.group;
-    let vacant = holding::is_empty(group);
+    let vacant = holding::is_nothing(group);
     if vacant {
         return true;
     }
@@ -159,7 +159,7 @@ fn is_group_right(session: Session) -> bool
 
 // Whether a session counts as open.
 pub fn is_open(session: Session) -> bool
-    ensures { λ r. ⌜ r ≡ isOpen evrc session ⌝ }
+    ensures { λ r. ⌜ r ≡ isOpen (tableOf (session .form)) session ⌝ }
 {
     if session.open {
         let form = session.form;
@@ -195,7 +195,7 @@ fn accepted(session: Session, lost: usize) -> Offered
 }
 
 // The session with another group held.
-fn holding_group(session: Session, group: Holding) -> Session
+fn with_group(session: Session, group: Holding) -> Session
     ensures { λ r. ⌜ r ≡ withGroup session group ⌝ }
 {
     let mut next = session;
@@ -203,21 +203,57 @@ fn holding_group(session: Session, group: Holding) -> Session
     next
 }
 
-// A packet of the held group: put in, the same again, or refused.
-fn put_in(session: Session, arrival: Arrival) -> Offered
-    requires { ⌜ arrival .n < 8 ⌝ }
-    ensures { λ r. ⌜ r ≡ sameBase session arrival ⌝ }
+// The numbers of the last poured group. Its base timestamp is not remembered: it decides nothing.
+fn last_numbers(session: Session) -> GroupNumbers
+    ensures { λ r. ⌜ r ≡ lastNumbers session ⌝ }
+{
+    GroupNumbers {
+        sequence: session.last_sequence,
+        timestamp: 0,
+        l: session.last_l,
+        b: session.last_b,
+    }
+}
+
+// The group that a packet comes after: the one that is held, the last one poured, or none.
+fn group_before(session: Session) -> Before
+    ensures { λ r. ⌜ r ≡ groupBefore session ⌝ }
 {
     let group = session.group;
-    if arrival.l != group.l {
-        return refused(session, Refusal::ContradictsGroup);
+    let vacant = holding::is_nothing(group);
+    if !vacant {
+        return Before::Held(holding::numbers_of(group));
     }
-    if arrival.b != group.b {
-        return refused(session, Refusal::ContradictsGroup);
+    if session.poured {
+        return Before::Poured(last_numbers(session));
     }
-    if arrival.timestamp != group.timestamp {
-        return refused(session, Refusal::ContradictsGroup);
-    }
+    Before::Nothing
+}
+
+// A packet that begins a group.
+fn begin_group(session: Session, arrival: Arrival, lost: usize) -> Offered
+    requires { ⌜ arrival .n < 8 ⌝ }
+    ensures { λ r. ⌜ r ≡ begins session arrival lost ⌝ }
+{
+    let numbers = arrival.numbers;
+    let none = holding::begin(
+        session.source,
+        numbers.sequence,
+        numbers.timestamp,
+        numbers.l,
+        numbers.b,
+    );
+    let n = arrival.n as usize;
+    let group = holding::with_packet(none, n, arrival.packet);
+    accepted(with_group(session, group), lost)
+}
+
+// A packet that belongs to the held group: put in, the same again, or another than the one that is held.
+fn put_in(session: Session, arrival: Arrival) -> Offered
+    requires { ⌜ arrival .n < 8 ⌝ }
+    ensures { λ r. ⌜ r ≡ belongs session arrival ⌝ }
+{
+    let group = session.group;
     let n = arrival.n as usize;
     let held = holding::is_held(group, n);
     if held {
@@ -228,80 +264,46 @@ fn put_in(session: Session, arrival: Arrival) -> Offered
         return refused(session, Refusal::PacketDiffers);
     }
     let more = holding::with_packet(group, n, arrival.packet);
-    accepted(holding_group(session, more), 0)
+    accepted(with_group(session, more), 0)
 }
 
-// A packet where a group is held: its distance from the held group decides.
-fn place_in_group(session: Session, arrival: Arrival) -> Offered
-    requires { ⌜ arrival .n < 8 ⌝ }
-    ensures { λ r. ⌜ r ≡ inGroup session arrival ⌝ }
-{
-    let group = session.group;
-    let base = arrival.sequence;
-    let held = group.sequence;
-    let distance = std::num::wrapping_sub_u16(base, held);
-    if distance == 0 {
-        return put_in(session, arrival);
-    }
-    let length = group.l as u16;
-    if distance <= length {
-        return refused(session, Refusal::ContradictsGroup);
-    }
-    if distance <= 32767 {
-        return refused(session, Refusal::LaterGroup);
-    }
-    refused(session, Refusal::EarlierGroup)
-}
-
-// A packet that begins a group.
-fn begin_group(session: Session, arrival: Arrival, lost: usize) -> Offered
-    requires { ⌜ arrival .n < 8 ⌝ }
-    ensures { λ r. ⌜ r ≡ begins session arrival lost ⌝ }
-{
-    let none = holding::begin(
-        session.source,
-        arrival.sequence,
-        arrival.timestamp,
-        arrival.l,
-        arrival.b,
-    );
-    let n = arrival.n as usize;
-    let group = holding::with_packet(none, n, arrival.packet);
-    accepted(holding_group(session, group), lost)
-}
-
-// A packet where no group is held: its distance from the end of the last poured group decides, if there is one.
-fn place_alone(session: Session, arrival: Arrival) -> Offered
-    requires { ⌜ arrival .n < 8 ⌝ }
-    ensures { λ r. ⌜ r ≡ noGroup session arrival ⌝ }
-{
-    if session.poured {
-        let length = session.last_l as u16 + 1;
-        let next = std::num::wrapping_add_u16(session.last_sequence, length);
-        let distance = std::num::wrapping_sub_u16(arrival.sequence, next);
-        if 32768 <= distance {
-            return refused(session, Refusal::EarlierGroup);
-        }
-        if 100 < distance {
-            return refused(session, Refusal::TooFarAhead);
-        }
-        let lost = distance as usize * session.last_b as usize;
-        return begin_group(session, arrival, lost);
-    }
-    begin_group(session, arrival, 0)
-}
-
-// The place of a packet that was read: with a group held, with one poured before, or with none before.
+// The place of a packet that was read: its numbers decide.
 fn place(session: Session, arrival: Arrival) -> Offered
     requires { ⌜ arrival .n < 8 ⌝ }
     ensures { λ r. ⌜ r ≡ placed session arrival ⌝ }
 {
-    let group = session.group;
-    let vacant = holding::is_empty(group);
-    if vacant {
-        place_alone(session, arrival)
-    } else {
-        place_in_group(session, arrival)
+    let numbers = arrival.numbers;
+    let before = group_before(session);
+    let verdict = numbers::decide(before, numbers);
+    match verdict {
+        Verdict::Begins(lost) => begin_group(session, arrival, lost),
+        Verdict::Belongs => put_in(session, arrival),
+        Verdict::Refused(reason) => refused(session, reason),
+    }
+}
+
+// What an open session makes of a packet.
+fn receive(session: Session, source: u32, sequence: u16, timestamp: u32, payload: &[u8]) -> Offered
+    ensures { λ r. ⌜ r ≡ received (tableOf (session .form)) session source sequence timestamp (now (payload .entry)) ⌝ }
+{
+    if source != session.source {
+        return refused(session, Refusal::AnotherSource);
+    }
+    let form = session.form;
+    let contents = payload::read(form, payload);
+    match contents {
+        Contents::Refused(reason) => refused(session, reason),
+        Contents::Packet { l, n, b, d: _ } => {
+            let packet = payload::lay_out(form, payload);
+            let numbers = GroupNumbers {
+                sequence: numbers::base_sequence(sequence, n),
+                timestamp: numbers::base_timestamp(timestamp, n),
+                l,
+                b,
+            };
+            let arrival = Arrival { numbers, n, packet };
+            place(session, arrival)
+        }
     }
 }
 
@@ -313,41 +315,22 @@ pub fn offer(
     timestamp: u32,
     payload: &[u8],
 ) -> Offered
-    ensures { λ r. ⌜ r ≡ offered evrc session source sequence timestamp (now (payload .entry)) ⌝ }
+    ensures { λ r. ⌜ r ≡ offered (tableOf (session .form)) session source sequence timestamp (now (payload .entry)) ⌝ }
 {
     let ready = is_open(session);
     if !ready {
         return refused(session, Refusal::NotApplicable);
     }
-    if source != session.source {
-        return refused(session, Refusal::AnotherSource);
-    }
-    let form = session.form;
-    let contents = payload::read(form, payload);
-    match contents {
-        Contents::Refused(reason) => refused(session, reason),
-        Contents::Packet { l, n, b, d: _ } => {
-            let packet = holding::packet_in(form, payload);
-            let arrival = Arrival {
-                sequence: holding::base_sequence(sequence, n),
-                timestamp: holding::base_timestamp(timestamp, n),
-                l,
-                n,
-                b,
-                packet,
-            };
-            place(session, arrival)
-        }
-    }
+    receive(session, source, sequence, timestamp, payload)
 }
 
 // The session after its group was poured.
-fn after_group(session: Session) -> Session
+fn ended(session: Session) -> Session
     ensures { λ r. ⌜ r ≡ ended session ⌝ }
 {
     let group = session.group;
     let form = session.form;
-    let none = holding::empty();
+    let none = holding::nothing();
     Session {
         open: session.open,
         source: session.source,
@@ -362,7 +345,7 @@ fn after_group(session: Session) -> Session
 
 // Pours the held group into out and ends it; or refused, and session and output are as they were.
 pub fn pour(session: Session, out: &mut [u8]) -> Poured
-    ensures { λ r. ⌜ Writes (pourMade evrc session) (now (out .entry)) (r .answer) (now (out .exit))
+    ensures { λ r. ⌜ Writes (pourMade (tableOf (session .form)) session) (now (out .entry)) (r .answer) (now (out .exit))
         × (r .session ≡ afterPour session (r .answer)) ⌝ }
 {
     let ready = is_open(session);
@@ -380,7 +363,7 @@ pub fn pour(session: Session, out: &mut [u8]) -> Poured
             session,
         },
         Written::Octets(count) => {
-            let next = after_group(session);
+            let next = ended(session);
             Poured {
                 answer: Written::Octets(count),
                 session: next,
@@ -393,7 +376,7 @@ pub fn pour(session: Session, out: &mut [u8]) -> Poured
 fn no_copy() -> Copied
     ensures { λ r. ⌜ r ≡ noCopy ⌝ }
 {
-    let none = holding::empty();
+    let none = holding::nothing();
     Copied {
         answer: Answer::Refused(Refusal::NotApplicable),
         holding: none,
@@ -402,14 +385,14 @@ fn no_copy() -> Copied
 
 // The held group, copied out; 21 where the session is not open or holds none.
 pub fn copy_out(session: Session) -> Copied
-    ensures { λ r. ⌜ r ≡ copied evrc session ⌝ }
+    ensures { λ r. ⌜ r ≡ copied (tableOf (session .form)) session ⌝ }
 {
     let ready = is_open(session);
     if !ready {
         return no_copy();
     }
     let group = session.group;
-    let none_held = holding::is_empty(group);
+    let none_held = holding::is_nothing(group);
     if none_held {
         return no_copy();
     }
@@ -421,7 +404,7 @@ pub fn copy_out(session: Session) -> Copied
 
 // Ends a session: nothing of it is left. Never refused.
 pub fn end(_session: Session) -> Session
-    ensures { λ r. ⌜ r ≡ never ⌝ }
+    ensures { λ r. ⌜ r ≡ neverOpened ⌝ }
 {
-    closed()
+    never_opened()
 }

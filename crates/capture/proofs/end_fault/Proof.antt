@@ -1,5 +1,5 @@
 -- `capture::end_fault` meets its contract.
-use Rattle.capture.proofs.TableLaws.{ends-late, ends-early, ends-there}
+use Rattle.capture.proofs.CaptureLaws.{ends-late, ends-early, ends-there}
 use Rattle.capture.proofs.end_fault.Statement.{statement}
 use Rattle.capture.proofs.end_fault.Tie as tie
 

@@ -5,15 +5,13 @@ use native.Mathlib.Nat.{le-trans}
 use lib.Dec.{leb}
 use borrow.Author.Tests.{le-leb}
 use borrow.Author.Needs.{needs}
-use Rattle.recording.specs.Recording.{evrcOpening}
-use Rattle.frame.proofs.TableLaws.{evrc-erases}
-use Rattle.frame.specs.Table.{evrc}
-use Rattle.capture.proofs.RunLaws.{largest-is}
+use Rattle.capture.specs.Run.{captureKind}
+use Rattle.capture.proofs.RunLaws.{table-fits, table-erases, largest-is}
 use Rattle.capture.proofs.fits.Statement.{statement}
 use Rattle.capture.proofs.fits.Tie as tie
 
 returns : tie.Need-returns
-returns c = sym (le-leb _ _ (le-trans (largest-is evrc tt evrc-erases evrcOpening _ refl (c .before .before .pre)) (c .if1 .taken)))
+returns c = sym (le-leb _ _ (le-trans (largest-is captureKind table-fits table-erases _ refl (c .before .before .pre)) (c .if1 .taken)))
 
 measure-requires : tie.Need-measure-requires
 measure-requires c κs = search needs

@@ -1,6 +1,6 @@
 -- `capture::is_good` meets its contract.
 use borrow.Author.Needs.{needs}
-use Rattle.capture.proofs.TableLaws.{good-by}
+use Rattle.capture.proofs.CaptureLaws.{good-by}
 use Rattle.capture.proofs.is_good.Statement.{statement}
 use Rattle.capture.proofs.is_good.Tie as tie
 

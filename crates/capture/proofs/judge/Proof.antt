@@ -1,7 +1,7 @@
 -- `capture::judge` meets its contract.
 use mathlib.Core.Path.{_∙_}
 use borrow.Author.Needs.{needs}
-use Rattle.capture.proofs.TableLaws.{too-long, no-count, too-many, table-cut, by-end}
+use Rattle.capture.proofs.CaptureLaws.{too-long, no-count, too-many, table-cut, by-end}
 use Rattle.capture.proofs.judge.Statement.{statement}
 use Rattle.capture.proofs.judge.Tie as tie
 
@@ -27,7 +27,9 @@ add-table : tie.Need-add-table
 add-table c = search needs
 
 returns-4 : tie.Need-returns-4
-returns-4 c = table-cut _ (c .before .before .before .before .if1 .left) (c .before .before .before .if2 .left) _ (c .before .before .two .ensures) (c .before .if3 .left) (c .if4 .taken)
+returns-4 c =
+    let at-if1 = c .before .before .before .before in
+    table-cut _ (at-if1 .if1 .left) (c .before .before .before .if2 .left) _ (c .before .before .two .ensures) (c .before .if3 .left) (c .if4 .taken)
 
 payload-octets-requires : tie.Need-payload-octets-requires
 payload-octets-requires c κs = search needs
@@ -39,7 +41,13 @@ end-fault-requires : tie.Need-end-fault-requires
 end-fault-requires c κs = search needs
 
 returns-5 : tie.Need-returns-5
-returns-5 c = c .end-fault .ensures ∙ by-end _ (c .before .before .before .before .before .before .if1 .left) (c .before .before .before .before .before .if2 .left) _ (c .before .before .before .before .two .ensures) (c .before .before .before .if3 .left) _ (c .before .payload-octets .ensures .0) (c .before .before .if4 .left)
+returns-5 c =
+    let at-two = c .before .before .before .before in
+    let at-if2 = at-two .before in
+    let at-if1 = at-if2 .before in
+    c .end-fault .ensures
+    ∙ by-end _ (at-if1 .if1 .left) (at-if2 .if2 .left) _ (at-two .two .ensures) (c .before .before .before .if3 .left) _
+    (c .before .payload-octets .ensures .0) (c .before .before .if4 .left)
 
 pub judge-spec : {M : Type 1} → statement M
 judge-spec =

@@ -45,13 +45,19 @@ part-offer-start : tie.Need-part-offer-start
 part-offer-start c = search needs
 
 part-offer-end : tie.Need-part-offer-end
-part-offer-end c = omega (arith, c .two2 .ensures, c .before .before .before .before .before .pre .1, c .before .before .before .before .before .pre .2)
+part-offer-end c =
+    let start = c .before .before .before .before .before in
+    omega (arith, c .two2 .ensures, start .pre .1, start .pre .2)
 
 offer-requires : tie.Need-offer-requires
 offer-requires c κs = search needs
 
 returns : tie.Need-returns
-returns c = offer-heard _ _ _ _ _ _ _ _ _ _ (c .before .before .before .before .before .four .ensures) (c .before .before .before .before .two .ensures) (c .before .before .before .four2 .ensures) (c .before .before .two2 .ensures) (c .before .before .before .before .before .before .before .pre .1) (c .offer .ensures)
+returns c =
+    let at-two = c .before .before .before .before in
+    let at-four = at-two .before in
+    let start = at-four .before .before in
+    offer-heard _ _ _ _ _ _ _ _ _ _ (at-four .four .ensures) (at-two .two .ensures) (c .before .before .before .four2 .ensures) (c .before .before .two2 .ensures) (start .pre .1) (c .offer .ensures)
 
 pub offer-packet-spec : {M : Type 1} → statement M
 offer-packet-spec =

@@ -3,8 +3,8 @@ use Prim.Native.Nat.{_-_, _*_, _≤_}
 use mathlib.Core.Path.{_≡_, _∙_, ap}
 use native.Mathlib.Omega.{arith}
 use borrow.Author.Needs.{needs}
-use Rattle.capture.specs.Table.{lengths}
-use Rattle.capture.proofs.TableLaws.{lengths-none, lengths-more}
+use Rattle.capture.specs.Capture.{lengths}
+use Rattle.capture.proofs.CaptureLaws.{lengths-none, lengths-more}
 use Rattle.capture.proofs.payload_octets.Statement.{statement}
 use Rattle.capture.proofs.payload_octets.Tie as tie
 

@@ -20,10 +20,14 @@ returns : tie.Need-returns
 returns c = search needs
 
 returns-2 : tie.Need-returns-2
-returns-2 c = λ (h : c .before .before .before .before .args .at + length (now (c .before .before .before .before .args .w)) ≤ length (now (c .before .before .before .before .args .out))). absurd (omega arith)
+returns-2 c =
+    let start = c .before .before .before .before in
+    λ (h : start .args .at + length (now (start .args .w)) ≤ length (now (start .args .out))). absurd (omega arith)
 
 returns-3 : tie.Need-returns-3
-returns-3 c = λ (h : c .before .before .before .args .at + length (now (c .before .before .before .args .w)) ≤ length (now (c .before .before .before .args .out))). absurd (omega arith)
+returns-3 c =
+    let start = c .before .before .before in
+    λ (h : start .args .at + length (now (start .args .w)) ≤ length (now (start .args .out))). absurd (omega arith)
 
 pub put-spec : {M : Type 1} → statement M
 put-spec = tie.close (tie.spec sub-if2 copy-requires same-length returns returns-2 returns-3)

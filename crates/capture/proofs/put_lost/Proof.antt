@@ -4,7 +4,7 @@ use native.Mathlib.Omega.{arith}
 use lib.ListN.{length, replicate, length-replicate}
 use denote.Ref.{now}
 use borrow.Author.Needs.{needs}
-use Rattle.frame.specs.Table.{erasure}
+use Rattle.capture.specs.Run.{captureKind}
 use Rattle.capture.proofs.put_lost.Statement.{statement}
 use Rattle.capture.proofs.put_lost.Tie as tie
 
@@ -21,10 +21,16 @@ returns : tie.Need-returns
 returns c = search needs
 
 returns-2 : tie.Need-returns-2
-returns-2 c = λ (h : c .before .before .before .args .at + length (replicate (c .before .before .before .args .lost) erasure) ≤ length (now (c .before .before .before .args .out))). absurd (omega (arith, length-replicate (c .before .before .before .args .lost) erasure))
+returns-2 c =
+    let start = c .before .before .before in
+    λ (h : start .args .at + length (replicate (start .args .lost) (captureKind .erasure)) ≤ length (now (start .args .out))).
+    absurd (omega (arith, length-replicate (start .args .lost) (captureKind .erasure)))
 
 returns-3 : tie.Need-returns-3
-returns-3 c = λ (h : c .before .before .args .at + length (replicate (c .before .before .args .lost) erasure) ≤ length (now (c .before .before .args .out))). absurd (omega (arith, length-replicate (c .before .before .args .lost) erasure))
+returns-3 c =
+    let start = c .before .before in
+    λ (h : start .args .at + length (replicate (start .args .lost) (captureKind .erasure)) ≤ length (now (start .args .out))).
+    absurd (omega (arith, length-replicate (start .args .lost) (captureKind .erasure)))
 
 pub put-lost-spec : {M : Type 1} → statement M
 put-lost-spec = tie.close (tie.spec sub-if2 fill-requires same-length returns returns-2 returns-3)

@@ -2,11 +2,9 @@
 use mathlib.Core.Path.{refl}
 use native.Mathlib.Omega.{arith}
 use borrow.Author.Needs.{needs}
-use Rattle.recording.specs.Recording.{evrcOpening}
-use Rattle.frame.proofs.TableLaws.{evrc-erases}
-use Rattle.frame.specs.Table.{evrc}
-use Rattle.capture.proofs.RunLaws.{all-fits, opening-put, whole-run}
-use Rattle.capture.proofs.TableLaws.{good-is, table-in}
+use Rattle.capture.specs.Run.{captureKind}
+use Rattle.capture.proofs.RunLaws.{table-fits, table-erases, all-fits, opening-put, whole-run}
+use Rattle.capture.proofs.CaptureLaws.{good-is, table-in}
 use Rattle.capture.proofs.run_capture.Statement.{statement}
 use Rattle.capture.proofs.run_capture.Tie as tie
 
@@ -23,19 +21,33 @@ write-requires : tie.Need-write-requires
 write-requires c κs = search needs
 
 first-session-requires : tie.Need-first-session-requires
-first-session-requires c κs = (omega (arith, c .before .before .before .before .before .two .ensures, table-in _ (good-is _ (c .before .before .before .before .before .before .before .before .pre))), c .before .before .before .before .before .two .ensures)
+first-session-requires c κs =
+    let at-two = c .before .before .before .before .before in
+    let start = at-two .before .before .before in
+    (omega (arith, at-two .two .ensures, table-in _ (good-is _ (start .pre))), at-two .two .ensures)
 
 run-packets-requires : tie.Need-run-packets-requires
-run-packets-requires c κs = (c .before .before .before .before .before .before .before .before .before .before .pre, c .before .before .before .before .before .before .before .two .ensures, refl, c .before .first-session .ensures)
+run-packets-requires c κs =
+    let at-two = c .before .before .before .before .before .before .before in
+    let start = at-two .before .before .before in
+    (start .pre, at-two .two .ensures, refl, c .before .first-session .ensures)
 
 pour-group-requires : tie.Need-pour-group-requires
-pour-group-requires c κs = omega (arith, all-fits evrc tt evrc-erases _ (c .before .before .before .before .before .before .before .before .before .before .before .before .before .before .pre) _ (c .before .before .before .before .before .first-session .ensures) _ _ _ (c .before .before .before .run-packets .ensures))
+pour-group-requires c κs =
+    let at-first-session = c .before .before .before .before .before in
+    let start = at-first-session .before .before .before .before .before .before .before .before .before in
+    omega (arith, all-fits captureKind table-fits table-erases _ (start .pre) _ (at-first-session .first-session .ensures) _ _ _ (c .before .before .before .run-packets .ensures))
 
 same-length : tie.Need-same-length
 same-length c = search needs
 
 returns : tie.Need-returns
-returns c = whole-run evrc evrcOpening _ _ _ _ _ _ _ _ refl (c .before .before .before .before .before .before .before .before .first-session .ensures) (opening-put _ _ _ _ _ (c .before .before .before .before .before .before .before .before .before .before .before .write .ensures)) (c .before .before .before .before .before .before .run-packets .ensures) (c .before .before .pour-group .ensures)
+returns c =
+    let at-run-packets = c .before .before .before .before .before .before in
+    let at-first-session = at-run-packets .before .before in
+    let at-write = at-first-session .before .before .before in
+    whole-run captureKind _ _ _ _ _ _ _ _ refl (at-first-session .first-session .ensures)
+    (opening-put _ _ _ _ (at-write .write .ensures)) (at-run-packets .run-packets .ensures) (c .before .before .pour-group .ensures)
 
 pub run-capture-spec : {M : Type 1} → statement M
 run-capture-spec =

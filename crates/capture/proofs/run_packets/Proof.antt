@@ -4,68 +4,129 @@ use mathlib.Core.Path.{_≡_, refl, _∙_}
 use native.Mathlib.Omega.{arith}
 use lib.ListN.{length}
 use borrow.Author.Needs.{needs}
-use Rattle.frame.proofs.TableLaws.{evrc-erases}
-use Rattle.frame.specs.Table.{evrc}
 use Rattle.frame.specs.Places.{upTo}
-use Rattle.capture.specs.Run.{runOf, Does}
-use Rattle.capture.specs.Table.{startAt, heardAt}
-use Rattle.capture.proofs.RunLaws.{run-none, run-again, run-all, run-fits}
-use Rattle.capture.proofs.TableLaws.{good-is, start-first, start-more, turn}
+use Rattle.capture.specs.Run.{captureKind, runOf, Does}
+use Rattle.capture.specs.Capture.{startAt, heardAt}
+use Rattle.capture.proofs.RunLaws.{table-fits, table-erases, run-none, run-again, run-all, run-fits}
+use Rattle.capture.proofs.CaptureLaws.{good-is, start-first, start-more, turn}
 use Rattle.capture.proofs.run_packets.Statement.{statement}
 use Rattle.capture.proofs.run_packets.Tie as tie
 
 abbrev Inv-loop : tie.InvT-loop
-Inv-loop capture count out₀ run₀ start₀ i₀ out run start i = (i ≤ count) × ((length out ≡ length out₀) × ((start ≡ startAt capture i) × Does (runOf evrc (run₀ .session) (upTo (heardAt capture) i)) (run₀ .octets) out₀ run out))
+Inv-loop capture count out₀ run₀ start₀ i₀ out run start i =
+    (i ≤ count)
+    × ((length out ≡ length out₀)
+    × ((start ≡ startAt capture i) × Does (runOf captureKind (run₀ .session) (upTo (heardAt capture) i)) (run₀ .octets) out₀ run out))
 
 abbrev μ-loop : tie.MeasureT-loop
 μ-loop capture count out₀ run₀ start₀ i₀ out run start i = count - i
 
 mul-start : tie.Need-mul-start Inv-loop μ-loop
-mul-start c = let g = good-is _ (c .before .before .pre .0) in omega (arith, g .few, c .before .before .pre .1)
+mul-start c =
+    let start = c .before .before in
+    let g = good-is _ (start .pre .0) in
+    omega (arith, g .few, start .pre .1)
 
 add-start : tie.Need-add-start Inv-loop μ-loop
-add-start c = let g = good-is _ (c .before .before .pre .0) in omega (arith, g .few, c .before .before .pre .1)
+add-start c =
+    let start = c .before .before in
+    let g = good-is _ (start .pre .0) in
+    omega (arith, g .few, start .pre .1)
 
 loop-holds : tie.Need-loop-holds Inv-loop μ-loop
 loop-holds c = (omega arith, (refl, (start-first _ _ (c .before .before .pre .1), run-none _ _ _ _ _ _ refl refl)))
 
 step-requires : tie.Need-step-requires Inv-loop μ-loop
 step-requires c κs =
-    let t = turn _ (c .before .before .before .before .before .pre .0) _ _ _ (c .before .before .before .before .before .pre .1) (c .before .loop-test .taken) (c .before .before .loop .inv .1 .1 .0) in
-    (t .row-in, c .before .before .loop .inv .1 .1 .0, t .payload-in, omega (arith, run-fits evrc tt evrc-erases _ (c .before .before .before .before .before .pre .0) _ _ _ (c .before .before .before .before .before .pre .1) (c .before .before .loop .inv .0) (c .before .before .before .before .before .pre .2) _ (c .before .before .before .before .before .pre .3) _ _ _ (c .before .before .loop .inv .1 .1 .1)))
+    let at-loop = c .before .before in
+    let start = at-loop .before .before .before in
+    let t = turn _ (start .pre .0) _ _ _ (start .pre .1) (c .before .loop-test .taken) (at-loop .loop .inv .1 .1 .0) in (
+      t .row-in,
+      at-loop .loop .inv .1 .1 .0,
+      t .payload-in,
+      omega (
+        arith,
+        run-fits captureKind table-fits table-erases _ (start .pre .0) _ _ _ (start .pre .1) (at-loop .loop .inv .0) (start .pre .2) _ (start .pre .3) _
+            _ _ (at-loop .loop .inv .1 .1 .1),
+      ),
+    )
 
 mul-two : tie.Need-mul-two Inv-loop μ-loop
-mul-two c = let t = turn _ (c .before .before .before .before .before .before .before .before .pre .0) _ _ _ (c .before .before .before .before .before .before .before .before .pre .1) (c .before .before .before .before .loop-test .taken) (c .before .before .before .before .before .loop .inv .1 .1 .0) in omega (arith, t .row-in, t .short)
+mul-two c =
+    let at-loop-test = c .before .before .before .before in
+    let at-loop = at-loop-test .before in
+    let start = at-loop .before .before .before in
+    let t = turn _ (start .pre .0) _ _ _ (start .pre .1) (at-loop-test .loop-test .taken) (at-loop .loop .inv .1 .1 .0) in
+    omega (arith, t .row-in, t .short)
 
 add-two : tie.Need-add-two Inv-loop μ-loop
-add-two c = let t = turn _ (c .before .before .before .before .before .before .before .before .pre .0) _ _ _ (c .before .before .before .before .before .before .before .before .pre .1) (c .before .before .before .before .loop-test .taken) (c .before .before .before .before .before .loop .inv .1 .1 .0) in omega (arith, t .row-in, t .short)
+add-two c =
+    let at-loop-test = c .before .before .before .before in
+    let at-loop = at-loop-test .before in
+    let start = at-loop .before .before .before in
+    let t = turn _ (start .pre .0) _ _ _ (start .pre .1) (at-loop-test .loop-test .taken) (at-loop .loop .inv .1 .1 .0) in
+    omega (arith, t .row-in, t .short)
 
 add-two-2 : tie.Need-add-two-2 Inv-loop μ-loop
-add-two-2 c = let t = turn _ (c .before .before .before .before .before .before .before .before .pre .0) _ _ _ (c .before .before .before .before .before .before .before .before .pre .1) (c .before .before .before .before .loop-test .taken) (c .before .before .before .before .before .loop .inv .1 .1 .0) in omega (arith, t .row-in, t .short)
+add-two-2 c =
+    let at-loop-test = c .before .before .before .before in
+    let at-loop = at-loop-test .before in
+    let start = at-loop .before .before .before in
+    let t = turn _ (start .pre .0) _ _ _ (start .pre .1) (at-loop-test .loop-test .taken) (at-loop .loop .inv .1 .1 .0) in
+    omega (arith, t .row-in, t .short)
 
 two-requires : tie.Need-two-requires Inv-loop μ-loop
-two-requires c κs = let t = turn _ (c .before .before .before .before .before .before .before .before .pre .0) _ _ _ (c .before .before .before .before .before .before .before .before .pre .1) (c .before .before .before .before .loop-test .taken) (c .before .before .before .before .before .loop .inv .1 .1 .0) in omega (arith, t .row-in)
+two-requires c κs =
+    let at-loop-test = c .before .before .before .before in
+    let at-loop = at-loop-test .before in
+    let start = at-loop .before .before .before in
+    let t = turn _ (start .pre .0) _ _ _ (start .pre .1) (at-loop-test .loop-test .taken) (at-loop .loop .inv .1 .1 .0) in
+    omega (arith, t .row-in)
 
 cast-start : tie.Need-cast-start Inv-loop μ-loop
 cast-start c = search needs
 
 add-start-2 : tie.Need-add-start-2 Inv-loop μ-loop
-add-start-2 c = let t = turn _ (c .before .before .before .before .before .before .before .before .before .pre .0) _ _ _ (c .before .before .before .before .before .before .before .before .before .pre .1) (c .before .before .before .before .before .loop-test .taken) (c .before .before .before .before .before .before .loop .inv .1 .1 .0) in omega (arith, t .payload-in, t .short, c .two .ensures)
+add-start-2 c =
+    let at-loop-test = c .before .before .before .before .before in
+    let at-loop = at-loop-test .before in
+    let start = at-loop .before .before .before in
+    let t = turn _ (start .pre .0) _ _ _ (start .pre .1) (at-loop-test .loop-test .taken) (at-loop .loop .inv .1 .1 .0) in
+    omega (arith, t .payload-in, t .short, c .two .ensures)
 
 add-i : tie.Need-add-i Inv-loop μ-loop
-add-i c = let t = turn _ (c .before .before .before .before .before .before .before .before .before .pre .0) _ _ _ (c .before .before .before .before .before .before .before .before .before .pre .1) (c .before .before .before .before .before .loop-test .taken) (c .before .before .before .before .before .before .loop .inv .1 .1 .0) in omega (arith, t .row-in, t .short)
+add-i c =
+    let at-loop-test = c .before .before .before .before .before in
+    let at-loop = at-loop-test .before in
+    let start = at-loop .before .before .before in
+    let t = turn _ (start .pre .0) _ _ _ (start .pre .1) (at-loop-test .loop-test .taken) (at-loop .loop .inv .1 .1 .0) in
+    omega (arith, t .row-in, t .short)
 
 loop-less : tie.Need-loop-less Inv-loop μ-loop
 loop-less c = omega arith
 
 loop-again : tie.Need-loop-again Inv-loop μ-loop
-loop-again c = (omega arith, (c .before .before .before .step .kept .1 .1 .1 .1 .0 ∙ c .before .before .before .before .before .before .loop .inv .1 .0, (start-more _ _ _ _ (c .before .before .before .before .before .before .loop .inv .1 .1 .0) (c .two .ensures), run-again _ _ _ _ _ _ _ _ _ _ (c .before .before .before .before .before .before .loop .inv .1 .1 .1) (c .before .before .before .step .ensures))))
+loop-again c =
+    let at-step = c .before .before .before in
+    let at-loop = at-step .before .before .before in (
+      omega arith,
+      (
+        at-step .step .kept .1 .1 .1 .1 .0 ∙ at-loop .loop .inv .1 .0,
+        (
+          start-more _ _ _ _ (at-loop .loop .inv .1 .1 .0) (c .two .ensures),
+          run-again _ _ _ _ _ _ _ _ _ _ (at-loop .loop .inv .1 .1 .1) (at-step .step .ensures),
+        ),
+      ),
+    )
 
 same-length : tie.Need-same-length Inv-loop μ-loop
 same-length c = c .before .loop .inv .1 .0
 
 returns : tie.Need-returns Inv-loop μ-loop
-returns c = let e : c .before .loop .i ≡ c .before .before .before .before .args .count = omega arith in run-all _ _ _ _ _ _ _ _ (e ∙ c .before .before .before .before .pre .1) (c .before .loop .inv .1 .1 .1)
+returns c =
+    let start = c .before .before .before .before in
+    let e : c .before .loop .i ≡ start .args .count = omega arith in
+    run-all _ _ _ _ _ _ _ _ (e ∙ start .pre .1) (c .before .loop .inv .1 .1 .1)
 
 pub run-packets-spec : {M : Type 1} → statement M
 run-packets-spec =

@@ -15,16 +15,21 @@ put-lost-requires : tie.Need-put-lost-requires
 put-lost-requires c κs = search needs
 
 add-t12 : tie.Need-add-t12
-add-t12 c = omega (arith, lost-is _ _ (c .before .before .before .before .before .before .answer .given .1), c .before .before .before .before .before .before .before .before .before .pre .1)
+add-t12 c =
+    let at-answer = c .before .before .before .before .before .before in
+    let start = at-answer .before .before .before in
+    omega (arith, lost-is _ _ (at-answer .answer .given .1), start .pre .1)
 
 returns : tie.Need-returns
-returns c = does-nothing _ _ _ (not-taken _ _ _ _ (c .enum-told .given .1))
+returns c = does-nothing _ _ _ (not-taken _ _ _ _ _ (c .enum-told .given .1))
 
 same-length : tie.Need-same-length
 same-length c = search needs
 
 returns-2 : tie.Need-returns-2
-returns-2 c = taken _ _ _ _ _ _ _ (c .before .before .before .before .before .before .answer .given .1) (c .before .before .before .put-lost .ensures)
+returns-2 c =
+    let at-answer = c .before .before .before .before .before .before in
+    taken _ _ _ _ _ _ _ _ (at-answer .answer .given .1) (c .before .before .before .put-lost .ensures)
 
 pub take-spec : {M : Type 1} → statement M
 take-spec =

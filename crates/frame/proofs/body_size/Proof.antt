@@ -1,7 +1,7 @@
 -- `frame::body_size` meets its contract. Assumes nothing.
 use mathlib.Core.Path.{sym, ap, _∙_}
 use borrow.Author.Needs.{needs}
-use Rattle.frame.specs.Table.{octetsOf}
+use Rattle.frame.specs.FrameTable.{octetsOf}
 use Rattle.frame.proofs.body_size.Statement.{statement}
 use Rattle.frame.proofs.body_size.Tie as tie
 

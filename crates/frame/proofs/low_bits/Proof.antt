@@ -3,7 +3,7 @@ use Prim.Native.Nat.{ℕ, _%_}
 use mathlib.Core.Path.{ap}
 use lib.Pow.{pow-pos}
 use borrow.Author.Needs.{needs}
-use Rattle.frame.proofs.TableLaws.{all-bits, unit}
+use Rattle.frame.proofs.FrameTableLaws.{all-bits, unit}
 use Rattle.frame.proofs.low_bits.Statement.{statement}
 use Rattle.frame.proofs.low_bits.Tie as tie
 

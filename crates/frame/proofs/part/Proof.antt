@@ -3,8 +3,7 @@ use mathlib.Core.Path.{refl}
 use native.Mathlib.Omega.{arith}
 use borrow.Author.Needs.{needs}
 use Rattle.frame.specs.Places.{liesIn}
-use Rattle.frame.proofs.PlaceLaws.{starts-past, ends-past, no-part, very-part}
-use Rattle.frame.proofs.PlaceLaws.{starts-past, ends-past}
+use Rattle.frame.proofs.PlacesLaws.{starts-past, ends-past, no-part, very-part}
 use Rattle.frame.proofs.part.Statement.{statement}
 use Rattle.frame.proofs.part.Tie as tie
 
@@ -30,7 +29,9 @@ slice-aggregate-result-3 : tie.Need-slice-aggregate-result-3
 slice-aggregate-result-3 c = search needs
 
 returns-2 : tie.Need-returns-2
-returns-2 c = no-part _ _ _ (rw (c .before .before .before .before .place .given .1) (ends-past _ _ _ _ (c .before .before .if1 .left) (c .before .if2 .taken))) refl refl
+returns-2 c =
+    let at-place = c .before .before .before .before in
+    no-part _ _ _ (rw (at-place .place .given .1) (ends-past _ _ _ _ (c .before .before .if1 .left) (c .before .if2 .taken))) refl refl
 
 add-result : tie.Need-add-result
 add-result c = search needs
@@ -49,7 +50,9 @@ unfolding liesIn
 returns-3 c = no-part _ _ _ (rw (c .before .enum-told .given .1)) refl refl
 
 returns-4 : tie.Need-returns-4
-returns-4 c = rw (c .before .before .before .before .place .given .1) (very-part _ _ _ _ _ (omega arith) refl refl)
+returns-4 c =
+    let at-place = c .before .before .before .before in
+    rw (at-place .place .given .1) (very-part _ _ _ _ _ (omega arith) refl refl)
 
 pub part-spec : {M : Type 1} → statement M
 part-spec =

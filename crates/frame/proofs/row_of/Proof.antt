@@ -1,34 +1,14 @@
--- `frame::row_of` meets its contract: an arm for each row of the table. Assumes nothing.
-use borrow.Author.Tests.{ne-eqb}
-use Rattle.frame.specs.Table.{rowOf}
+-- `frame::row_of` meets its contract: there is one vocoder as yet. Assumes nothing.
+use borrow.Author.Needs.{needs}
+use Rattle.frame.proofs.FrameTableLaws.{in-any}
 use Rattle.frame.proofs.row_of.Statement.{statement}
 use Rattle.frame.proofs.row_of.Tie as tie
 
+evrc-row-requires : tie.Need-evrc-row-requires
+evrc-row-requires c κs = search needs
+
 returns : tie.Need-returns
-unfolding rowOf
-returns c = simp (c .match .keys1)
-
-returns-2 : tie.Need-returns-2
-unfolding rowOf
-returns-2 c = simp (c .match .keys2)
-
-returns-3 : tie.Need-returns-3
-unfolding rowOf
-returns-3 c = simp (c .match .keys3)
-
-returns-4 : tie.Need-returns-4
-unfolding rowOf
-returns-4 c = simp (c .match .keys4)
-
-returns-5 : tie.Need-returns-5
-unfolding rowOf
-returns-5 c = simp (c .match .keys5)
-
-returns-6 : tie.Need-returns-6
-unfolding rowOf
-returns-6 c =
-    let r = c .match .rest in
-    simp (ne-eqb _ _ (r .0 .0 .0 .0 .1), ne-eqb _ _ (r .0 .0 .0 .1), ne-eqb _ _ (r .0 .0 .1), ne-eqb _ _ (r .0 .1), ne-eqb _ _ (r .1))
+returns c = in-any _ _ _ (c .evrc-row .ensures)
 
 pub row-of-spec : {M : Type 1} → statement M
-row-of-spec = tie.close (tie.spec returns returns-2 returns-3 returns-4 returns-5 returns-6)
+row-of-spec = tie.close (tie.spec evrc-row-requires returns)

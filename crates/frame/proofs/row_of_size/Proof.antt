@@ -1,51 +1,15 @@
--- `frame::row_of_size` meets its contract: an arm for each size of the table. Assumes nothing.
-use mathlib.Core.Path.{_∙_}
-use borrow.Author.Tests.{ne-eqb}
+-- `frame::row_of_size` meets its contract: there is one vocoder as yet. Assumes nothing.
 use borrow.Author.Needs.{needs}
-use Rattle.frame.specs.Table.{rowOf, rowWith}
+use Rattle.frame.proofs.FrameTableLaws.{in-any-by-size}
 use Rattle.frame.proofs.row_of_size.Statement.{statement}
 use Rattle.frame.proofs.row_of_size.Tie as tie
 
-row-of-requires : tie.Need-row-of-requires
-row-of-requires c κs = search needs
-
-row-of-requires-2 : tie.Need-row-of-requires-2
-row-of-requires-2 c κs = search needs
-
-row-of-requires-3 : tie.Need-row-of-requires-3
-row-of-requires-3 c κs = search needs
+evrc-row-of-size-requires : tie.Need-evrc-row-of-size-requires
+evrc-row-of-size-requires c κs = search needs
 
 returns : tie.Need-returns
-unfolding rowWith
-returns c = simp (c .match .keys1)
-
-returns-2 : tie.Need-returns-2
-unfolding rowOf rowWith
-returns-2 c = c .row-of .ensures ∙ simp (c .before .match .keys2)
-
-returns-3 : tie.Need-returns-3
-unfolding rowOf rowWith
-returns-3 c = c .row-of2 .ensures ∙ simp (c .before .match .keys3)
-
-returns-4 : tie.Need-returns-4
-unfolding rowOf rowWith
-returns-4 c = c .row-of3 .ensures ∙ simp (c .before .match .keys4)
-
-returns-5 : tie.Need-returns-5
-unfolding rowWith
-returns-5 c =
-    let r = c .match .rest in
-    simp (ne-eqb _ _ (r .0 .0 .0 .1), ne-eqb _ _ (r .0 .0 .1), ne-eqb _ _ (r .0 .1), ne-eqb _ _ (r .1))
+returns c =
+    in-any-by-size (c .before .args .vocoder) (c .before .args .size) (c .evrc-row-of-size .result) (c .evrc-row-of-size .ensures)
 
 pub row-of-size-spec : {M : Type 1} → statement M
-row-of-size-spec =
-    tie.close
-    (tie.spec
-    row-of-requires
-    row-of-requires-2
-    row-of-requires-3
-    returns
-    returns-2
-    returns-3
-    returns-4
-    returns-5)
+row-of-size-spec = tie.close (tie.spec evrc-row-of-size-requires returns)

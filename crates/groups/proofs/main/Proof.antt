@@ -50,13 +50,17 @@ wrapping-add-u64-requires : tie.Need-wrapping-add-u64-requires Inv-loop μ-loop
 wrapping-add-u64-requires c κs = search needs
 
 add-i : tie.Need-add-i Inv-loop μ-loop
-add-i c = omega (arith, c .before .before .before .before .before .loop .inv .0, c .before .before .before .before .before .loop .inv .1)
+add-i c =
+    let at-loop = c .before .before .before .before .before in
+    omega (arith, at-loop .loop .inv .0, at-loop .loop .inv .1)
 
 loop-less : tie.Need-loop-less Inv-loop μ-loop
 loop-less c = omega arith
 
 loop-again : tie.Need-loop-again Inv-loop μ-loop
-loop-again c = (omega arith, c .before .before .before .before .before .loop .inv .1, c .before .before .before .before .before .loop .inv .2, c .before .before .round .kept .1 .1 .0 ∙ c .before .before .before .before .before .loop .inv .3, simp length-set (c .before .before .before .before .before .loop .inv .4))
+loop-again c =
+    let at-loop = c .before .before .before .before .before in
+    (omega arith, at-loop .loop .inv .1, at-loop .loop .inv .2, c .before .before .round .kept .1 .1 .0 ∙ at-loop .loop .inv .3, simp length-set (at-loop .loop .inv .4))
 
 print-decimal-requires : tie.Need-print-decimal-requires Inv-loop μ-loop
 print-decimal-requires c κs = search needs

@@ -16,7 +16,9 @@ any-requires c κs = search needs
 
 returns : tie.Need-returns
 unfolding holds
-returns c = c .any .ensures ∙ sym (simp (sym (c .before .before .before .before .is-sound .ensures) ∙ c .before .before .before .if1 .taken))
+returns c =
+    let at-is-sound = c .before .before .before .before in
+    c .any .ensures ∙ sym (simp (sym (at-is-sound .is-sound .ensures) ∙ c .before .before .before .if1 .taken))
 
 returns-2 : tie.Need-returns-2
 unfolding holds

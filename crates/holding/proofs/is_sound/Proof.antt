@@ -12,13 +12,17 @@ returns-2 : tie.Need-returns-2
 returns-2 c = sound-none _ _ (c .before .before .if1 .left) (c .if2 .taken)
 
 returns-3 : tie.Need-returns-3
-returns-3 c = sound-many _ _ (c .before .before .before .before .if1 .left) (c .before .before .if2 .left) (c .if3 .taken)
+returns-3 c =
+    let at-if1 = c .before .before .before .before in
+    sound-many _ _ (at-if1 .if1 .left) (c .before .before .if2 .left) (c .if3 .taken)
 
 packets-right-requires : tie.Need-packets-right-requires
 packets-right-requires c κs = search needs
 
 returns-4 : tie.Need-returns-4
-returns-4 c = c .packets-right .ensures ∙ sound-packets _ _ (c .before .before .before .before .before .if1 .left) (c .before .before .before .if2 .left) (c .before .if3 .left)
+returns-4 c =
+    let at-if1 = c .before .before .before .before .before in
+    c .packets-right .ensures ∙ sound-packets _ _ (at-if1 .if1 .left) (c .before .before .before .if2 .left) (c .before .if3 .left)
 
 pub is-sound-spec : {M : Type 1} → statement M
 is-sound-spec = tie.close (tie.spec returns returns-2 returns-3 packets-right-requires returns-4)

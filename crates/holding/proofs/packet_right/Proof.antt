@@ -1,7 +1,7 @@
 -- `holding::packet_right` meets its contract.
 use mathlib.Core.Path.{ap, _∙_}
 use borrow.Author.Needs.{needs}
-use Rattle.holding.specs.Group.{samePackets}
+use Rattle.bundle.specs.Bundles.{sameBundles}
 use Rattle.holding.proofs.GroupLaws.{packet-above, packet-held, packet-lost}
 use Rattle.holding.proofs.packet_right.Statement.{statement}
 use Rattle.holding.proofs.packet_right.Tie as tie
@@ -15,20 +15,23 @@ frames-right-requires c κs = search needs
 returns-2 : tie.Need-returns-2
 returns-2 c = c .frames-right .ensures ∙ packet-held _ _ _ _ _ _ (c .before .before .if1 .taken) (c .before .if2 .left)
 
-no-packet-requires : tie.Need-no-packet-requires
-no-packet-requires c κs = search needs
+not-held-requires : tie.Need-not-held-requires
+not-held-requires c κs = search needs
 
-slice-aggregate-same-packets : tie.Need-slice-aggregate-same-packets
-slice-aggregate-same-packets c = search needs
+slice-aggregate-same-bundles : tie.Need-slice-aggregate-same-bundles
+slice-aggregate-same-bundles c = search needs
 
-slice-aggregate-same-packets-2 : tie.Need-slice-aggregate-same-packets-2
-slice-aggregate-same-packets-2 c = search needs
+slice-aggregate-same-bundles-2 : tie.Need-slice-aggregate-same-bundles-2
+slice-aggregate-same-bundles-2 c = search needs
 
-same-packets-requires : tie.Need-same-packets-requires
-same-packets-requires c κs = search needs
+same-bundles-requires : tie.Need-same-bundles-requires
+same-bundles-requires c κs = search needs
 
 returns-3 : tie.Need-returns-3
-returns-3 c = c .same-packets .ensures ∙ ap (samePackets _) (c .before .before .before .before .before .no-packet .ensures) ∙ packet-lost _ _ _ _ _ _ (c .before .before .before .before .before .before .if1 .left)
+returns-3 c =
+    let at-not-held = c .before .before .before .before .before in
+    let at-if1 = at-not-held .before in
+    c .same-bundles .ensures ∙ ap (sameBundles _) (at-not-held .not-held .ensures) ∙ packet-lost _ _ _ _ _ _ (at-if1 .if1 .left)
 
 pub packet-right-spec : {M : Type 1} → statement M
 packet-right-spec =
@@ -37,8 +40,8 @@ packet-right-spec =
     returns
     frames-right-requires
     returns-2
-    no-packet-requires
-    slice-aggregate-same-packets
-    slice-aggregate-same-packets-2
-    same-packets-requires
+    not-held-requires
+    slice-aggregate-same-bundles
+    slice-aggregate-same-bundles-2
+    same-bundles-requires
     returns-3)

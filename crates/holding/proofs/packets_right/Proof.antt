@@ -5,14 +5,16 @@ use mathlib.Core.Bool.{true}
 use native.Mathlib.Omega.{arith}
 use lib.ListN.{length}
 use borrow.Author.Needs.{needs}
-use Rattle.frame.specs.Table.{evrc}
-use Rattle.holding.specs.Group.{allBelow, rightAt}
-use Rattle.holding.proofs.GroupLaws.{all-more, all-fails, all-done, right-cut, length-cut}
+use Rattle.octets.specs.Octets.{allBelow}
+use Rattle.octets.proofs.Regions.{length-cut}
+use Rattle.octets.proofs.Below.{all-more, all-fails, all-done}
+use Rattle.holding.specs.Group.{tableOf, rightAt}
+use Rattle.holding.proofs.GroupLaws.{right-cut}
 use Rattle.holding.proofs.packets_right.Statement.{statement}
 use Rattle.holding.proofs.packets_right.Tie as tie
 
 abbrev Inv-loop : tie.InvT-loop
-Inv-loop h held marks room n₀ n = (n ≤ 8) × (allBelow (rightAt evrc h) n ≡ true)
+Inv-loop h held marks room n₀ n = (n ≤ 8) × (allBelow (rightAt (tableOf h) h) n ≡ true)
 
 abbrev μ-loop : tie.MeasureT-loop
 μ-loop h held marks room n₀ n = 8 - n
@@ -40,7 +42,9 @@ part-packet-right-start : tie.Need-part-packet-right-start Inv-loop μ-loop
 part-packet-right-start c = omega arith
 
 part-packet-right-end : tie.Need-part-packet-right-end Inv-loop μ-loop
-part-packet-right-end c = let h : length (c .before .before .before .before .before .before .args .h .marks) ≡ 80 = search needs in omega arith
+part-packet-right-end c =
+    let h : length (c .before .before .before .before .before .before .args .h .marks) ≡ 80 = search needs in
+    omega arith
 
 add-packet-right-2 : tie.Need-add-packet-right-2 Inv-loop μ-loop
 add-packet-right-2 c = omega arith
@@ -52,10 +56,17 @@ part-packet-right-start-2 : tie.Need-part-packet-right-start-2 Inv-loop μ-loop
 part-packet-right-start-2 c = omega arith
 
 part-packet-right-end-2 : tie.Need-part-packet-right-end-2 Inv-loop μ-loop
-part-packet-right-end-2 c = let h : length (c .before .before .before .before .before .before .before .before .args .h .room) ≡ 1760 = search needs in omega arith
+part-packet-right-end-2 c =
+    let h : length (c .before .before .before .before .before .before .before .before .args .h .room) ≡ 1760 = search needs in
+    omega arith
 
 packet-right-requires : tie.Need-packet-right-requires Inv-loop μ-loop
-packet-right-requires c κs = (length-cut (c .before .before .before .before .before .before .before .before .before .args .h .marks) 10 (c .before .before .before .before .before .loop .n) (let h : length (c .before .before .before .before .before .before .before .before .before .args .h .marks) ≡ 80 = search needs in omega arith), length-cut (c .before .before .before .before .before .before .before .before .before .args .h .room) 220 (c .before .before .before .before .before .loop .n) (let h : length (c .before .before .before .before .before .before .before .before .before .args .h .room) ≡ 1760 = search needs in omega arith))
+packet-right-requires c κs =
+    let m : length (c .before .before .before .before .before .before .before .before .before .args .h .marks) ≡ 80 = search needs in
+    let r : length (c .before .before .before .before .before .before .before .before .before .args .h .room) ≡ 1760 = search needs in
+    let at-loop = c .before .before .before .before .before in
+    let start = at-loop .before .before .before .before in
+    (length-cut (start .args .h .marks) 10 (at-loop .loop .n) (omega arith), length-cut (start .args .h .room) 220 (at-loop .loop .n) (omega arith))
 
 add-n : tie.Need-add-n Inv-loop μ-loop
 add-n c = omega arith
@@ -64,10 +75,14 @@ loop-less : tie.Need-loop-less Inv-loop μ-loop
 loop-less c = omega arith
 
 loop-again : tie.Need-loop-again Inv-loop μ-loop
-loop-again c = (omega arith, all-more _ _ (c .before .before .before .before .before .before .before .loop .inv .1) (sym (right-cut _ _ _) ∙ sym (c .before .packet-right .ensures) ∙ c .if1 .taken))
+loop-again c =
+    let at-loop = c .before .before .before .before .before .before .before in
+    (omega arith, all-more _ _ (at-loop .loop .inv .1) (sym (right-cut _ _ _) ∙ sym (c .before .packet-right .ensures) ∙ c .if1 .taken))
 
 returns : tie.Need-returns Inv-loop μ-loop
-returns c = sym (all-fails _ 8 (c .before .before .before .before .before .before .before .loop .n) (omega arith) (sym (right-cut _ _ _) ∙ sym (c .before .packet-right .ensures) ∙ c .if1 .left))
+returns c =
+    let at-loop = c .before .before .before .before .before .before .before in
+    sym (all-fails _ 8 (at-loop .loop .n) (omega arith) (sym (right-cut _ _ _) ∙ sym (c .before .packet-right .ensures) ∙ c .if1 .left))
 
 returns-2 : tie.Need-returns-2 Inv-loop μ-loop
 returns-2 c = all-done _ 8 (c .before .loop .n) (c .before .loop .inv .0) (omega arith) (c .before .loop .inv .1)

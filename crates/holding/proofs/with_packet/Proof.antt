@@ -42,7 +42,9 @@ copy-requires-2 c κs =
 
 returns : tie.Need-returns
 unfolding withPacket
-returns c = rw (c .before .copy2 .ensures, c .before .before .before .before .before .before .before .copy .ensures)
+returns c =
+    let at-copy = c .before .before .before .before .before .before .before in
+    rw (c .before .copy2 .ensures, at-copy .copy .ensures)
 
 pub with-packet-spec : {M : Type 1} → statement M
 with-packet-spec =

@@ -5,9 +5,9 @@ use mathlib.Core.Bool.{true}
 use native.Mathlib.Omega.{arith}
 use lib.ListN.{length}
 use borrow.Author.Needs.{needs}
-use Rattle.holding.specs.Group.{allBelow}
-use Rattle.holding.proofs.GroupLaws.{all-more, all-fails, all-done}
-use Rattle.joining.proofs.JoinSteps.{agreeIn, agree-cut, agree-is}
+use Rattle.octets.specs.Octets.{allBelow}
+use Rattle.octets.proofs.Below.{all-more, all-fails, all-done}
+use Rattle.joining.proofs.JoiningLaws.{agreeIn, agree-cut, agree-is}
 use Rattle.joining.proofs.agrees.Statement.{statement}
 use Rattle.joining.proofs.agrees.Tie as tie
 
@@ -40,7 +40,9 @@ part-agrees-at-start : tie.Need-part-agrees-at-start Inv-loop μ-loop
 part-agrees-at-start c = omega arith
 
 part-agrees-at-end : tie.Need-part-agrees-at-end Inv-loop μ-loop
-part-agrees-at-end c = let h : length (c .before .before .before .before .before .before .before .before .before .args .a .marks) ≡ 80 = search needs in omega arith
+part-agrees-at-end c =
+    let h : length (c .before .before .before .before .before .before .before .before .before .args .a .marks) ≡ 80 = search needs in
+    omega arith
 
 add-agrees-at-2 : tie.Need-add-agrees-at-2 Inv-loop μ-loop
 add-agrees-at-2 c = omega arith
@@ -52,7 +54,9 @@ part-agrees-at-start-2 : tie.Need-part-agrees-at-start-2 Inv-loop μ-loop
 part-agrees-at-start-2 c = omega arith
 
 part-agrees-at-end-2 : tie.Need-part-agrees-at-end-2 Inv-loop μ-loop
-part-agrees-at-end-2 c = let h : length (c .before .before .before .before .before .before .before .before .before .before .before .args .a .room) ≡ 1760 = search needs in omega arith
+part-agrees-at-end-2 c =
+    let h : length (c .before .before .before .before .before .before .before .before .before .before .before .args .a .room) ≡ 1760 = search needs in
+    omega arith
 
 array-read-agrees-at-2 : tie.Need-array-read-agrees-at-2 Inv-loop μ-loop
 array-read-agrees-at-2 c = omega arith
@@ -67,7 +71,9 @@ part-agrees-at-start-3 : tie.Need-part-agrees-at-start-3 Inv-loop μ-loop
 part-agrees-at-start-3 c = omega arith
 
 part-agrees-at-end-3 : tie.Need-part-agrees-at-end-3 Inv-loop μ-loop
-part-agrees-at-end-3 c = let h : length (c .before .before .before .before .before .before .before .before .before .before .before .before .before .args .b .marks) ≡ 80 = search needs in omega arith
+part-agrees-at-end-3 c =
+    let h : length (c .before .before .before .before .before .before .before .before .before .before .before .before .before .args .b .marks) ≡ 80 = search needs in
+    omega arith
 
 add-agrees-at-4 : tie.Need-add-agrees-at-4 Inv-loop μ-loop
 add-agrees-at-4 c = omega arith
@@ -79,7 +85,9 @@ part-agrees-at-start-4 : tie.Need-part-agrees-at-start-4 Inv-loop μ-loop
 part-agrees-at-start-4 c = omega arith
 
 part-agrees-at-end-4 : tie.Need-part-agrees-at-end-4 Inv-loop μ-loop
-part-agrees-at-end-4 c = let h : length (c .before .before .before .before .before .before .before .before .before .before .before .before .before .before .before .args .b .room) ≡ 1760 = search needs in omega arith
+part-agrees-at-end-4 c =
+    let h : length (c .before .before .before .before .before .before .before .before .before .before .before .before .before .before .before .args .b .room) ≡ 1760 = search needs in
+    omega arith
 
 agrees-at-requires : tie.Need-agrees-at-requires Inv-loop μ-loop
 agrees-at-requires c κs = tt
@@ -91,10 +99,14 @@ loop-less : tie.Need-loop-less Inv-loop μ-loop
 loop-less c = omega arith
 
 loop-again : tie.Need-loop-again Inv-loop μ-loop
-loop-again c = (omega arith, all-more _ _ (c .before .before .before .before .before .before .before .before .before .before .before .loop .inv .1) (sym (agree-cut _ _ _ _ _ _ _) ∙ sym (c .before .agrees-at .ensures) ∙ c .if1 .taken))
+loop-again c =
+    let at-loop = c .before .before .before .before .before .before .before .before .before .before .before in
+    (omega arith, all-more _ _ (at-loop .loop .inv .1) (sym (agree-cut _ _ _ _ _ _ _) ∙ sym (c .before .agrees-at .ensures) ∙ c .if1 .taken))
 
 returns : tie.Need-returns Inv-loop μ-loop
-returns c = sym (all-fails _ 8 (c .before .before .before .before .before .before .before .before .before .before .before .loop .n) (omega arith) (sym (agree-cut _ _ _ _ _ _ _) ∙ sym (c .before .agrees-at .ensures) ∙ c .if1 .left)) ∙ agree-is _ _
+returns c =
+    let at-loop = c .before .before .before .before .before .before .before .before .before .before .before in
+    sym (all-fails _ 8 (at-loop .loop .n) (omega arith) (sym (agree-cut _ _ _ _ _ _ _) ∙ sym (c .before .agrees-at .ensures) ∙ c .if1 .left)) ∙ agree-is _ _
 
 returns-2 : tie.Need-returns-2 Inv-loop μ-loop
 returns-2 c = all-done _ 8 (c .before .loop .n) (c .before .loop .inv .0) (omega arith) (c .before .loop .inv .1) ∙ agree-is _ _

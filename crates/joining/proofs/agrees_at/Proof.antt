@@ -1,15 +1,15 @@
 -- `joining::agrees_at` meets its contract.
 use mathlib.Core.Path.{_∙_}
 use borrow.Author.Needs.{needs}
-use Rattle.joining.proofs.JoinSteps.{meets-held, meets-first, meets-second}
+use Rattle.joining.proofs.JoiningLaws.{meets-held, meets-first, meets-second}
 use Rattle.joining.proofs.agrees_at.Statement.{statement}
 use Rattle.joining.proofs.agrees_at.Tie as tie
 
-same-packets-requires : tie.Need-same-packets-requires
-same-packets-requires c κs = search needs
+same-bundles-requires : tie.Need-same-bundles-requires
+same-bundles-requires c κs = search needs
 
 returns : tie.Need-returns
-returns c = c .same-packets .ensures ∙ meets-held _ _ _ _ (c .before .before .if1 .taken) (c .before .if2 .taken)
+returns c = c .same-bundles .ensures ∙ meets-held _ _ _ _ (c .before .before .if1 .taken) (c .before .if2 .taken)
 
 returns-2 : tie.Need-returns-2
 returns-2 c = meets-second _ _ _ _ (c .if2 .left)
@@ -18,4 +18,4 @@ returns-3 : tie.Need-returns-3
 returns-3 c = meets-first _ _ _ _ (c .if1 .left)
 
 pub agrees-at-spec : {M : Type 1} → statement M
-agrees-at-spec = tie.close (tie.spec same-packets-requires returns returns-2 returns-3)
+agrees-at-spec = tie.close (tie.spec same-bundles-requires returns returns-2 returns-3)

@@ -2,7 +2,7 @@
 use mathlib.Core.Path.{sym, _∙_}
 use borrow.Author.Tests.{not-true, not-false}
 use borrow.Author.Needs.{needs}
-use Rattle.joining.proofs.JoinSteps.{first-empty, second-empty, other-group, packet-differs, join-done}
+use Rattle.joining.proofs.JoiningLaws.{first-empty, second-empty, other-group, packet-differs, join-done}
 use Rattle.joining.proofs.join.Statement.{statement}
 use Rattle.joining.proofs.join.Tie as tie
 
@@ -31,7 +31,14 @@ refuse-requires-3 : tie.Need-refuse-requires-3
 refuse-requires-3 c κs = search needs
 
 returns-3 : tie.Need-returns-3
-returns-3 c = c .refuse3 .ensures ∙ other-group _ _ _ (sym (c .before .before .before .before .before .before .holds-packet .ensures) ∙ not-false _ (c .before .before .before .before .before .if1 .left)) (sym (c .before .before .before .before .holds-packet2 .ensures) ∙ not-false _ (c .before .before .before .if2 .left)) (sym (c .before .before .same-group .ensures) ∙ not-true _ (c .before .if3 .taken))
+returns-3 c =
+    let at-holds-packet2 = c .before .before .before .before in
+    let at-if1 = at-holds-packet2 .before in
+    let at-holds-packet = at-if1 .before in
+    c .refuse3 .ensures
+    ∙ other-group _ _ _ (sym (at-holds-packet .holds-packet .ensures) ∙ not-false _ (at-if1 .if1 .left))
+    (sym (at-holds-packet2 .holds-packet2 .ensures) ∙ not-false _ (c .before .before .before .if2 .left))
+    (sym (c .before .before .same-group .ensures) ∙ not-true _ (c .before .if3 .taken))
 
 agrees-requires : tie.Need-agrees-requires
 agrees-requires c κs = search needs
@@ -40,13 +47,32 @@ refuse-requires-4 : tie.Need-refuse-requires-4
 refuse-requires-4 c κs = search needs
 
 returns-4 : tie.Need-returns-4
-returns-4 c = c .refuse4 .ensures ∙ packet-differs _ _ _ (sym (c .before .before .before .before .before .before .before .before .holds-packet .ensures) ∙ not-false _ (c .before .before .before .before .before .before .before .if1 .left)) (sym (c .before .before .before .before .before .before .holds-packet2 .ensures) ∙ not-false _ (c .before .before .before .before .before .if2 .left)) (sym (c .before .before .before .before .same-group .ensures) ∙ not-false _ (c .before .before .before .if3 .left)) (sym (c .before .before .agrees .ensures) ∙ not-true _ (c .before .if4 .taken))
+returns-4 c =
+    let at-same-group = c .before .before .before .before in
+    let at-if2 = at-same-group .before in
+    let at-holds-packet2 = at-if2 .before in
+    let at-if1 = at-holds-packet2 .before in
+    let at-holds-packet = at-if1 .before in
+    c .refuse4 .ensures
+    ∙ packet-differs _ _ _ (sym (at-holds-packet .holds-packet .ensures) ∙ not-false _ (at-if1 .if1 .left))
+    (sym (at-holds-packet2 .holds-packet2 .ensures) ∙ not-false _ (at-if2 .if2 .left))
+    (sym (at-same-group .same-group .ensures) ∙ not-false _ (c .before .before .before .if3 .left))
+    (sym (c .before .before .agrees .ensures) ∙ not-true _ (c .before .if4 .taken))
 
-take-all-requires : tie.Need-take-all-requires
-take-all-requires c κs = search needs
+either-requires : tie.Need-either-requires
+either-requires c κs = search needs
 
 returns-5 : tie.Need-returns-5
-returns-5 c = join-done _ _ _ (sym (c .before .before .before .before .before .before .before .before .holds-packet .ensures) ∙ not-false _ (c .before .before .before .before .before .before .before .if1 .left)) (sym (c .before .before .before .before .before .before .holds-packet2 .ensures) ∙ not-false _ (c .before .before .before .before .before .if2 .left)) (sym (c .before .before .before .before .same-group .ensures) ∙ not-false _ (c .before .before .before .if3 .left)) (sym (c .before .before .agrees .ensures) ∙ not-false _ (c .before .if4 .left)) _ (c .take-all .ensures)
+returns-5 c =
+    let at-same-group = c .before .before .before .before in
+    let at-if2 = at-same-group .before in
+    let at-holds-packet2 = at-if2 .before in
+    let at-if1 = at-holds-packet2 .before in
+    let at-holds-packet = at-if1 .before in
+    join-done _ _ _ (sym (at-holds-packet .holds-packet .ensures) ∙ not-false _ (at-if1 .if1 .left))
+    (sym (at-holds-packet2 .holds-packet2 .ensures) ∙ not-false _ (at-if2 .if2 .left))
+    (sym (at-same-group .same-group .ensures) ∙ not-false _ (c .before .before .before .if3 .left))
+    (sym (c .before .before .agrees .ensures) ∙ not-false _ (c .before .if4 .left)) _ (c .either .ensures)
 
 pub join-spec : {M : Type 1} → statement M
 join-spec =
@@ -64,5 +90,5 @@ join-spec =
     agrees-requires
     refuse-requires-4
     returns-4
-    take-all-requires
+    either-requires
     returns-5)

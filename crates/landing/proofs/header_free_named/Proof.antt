@@ -1,7 +1,7 @@
 -- `landing::header_free_named` meets its contract. Assumes nothing.
 use mathlib.Core.Path.{sym, _∙_}
 use borrow.Author.Needs.{needs}
-use Rattle.frame.proofs.OutputLaws.{writes-refusal, writes-as}
+use Rattle.answers.proofs.OutputsLaws.{writes-refusal, writes-as}
 use Rattle.landing.specs.Host.{headerFreeNamed}
 use Rattle.landing.proofs.header_free_named.Statement.{statement}
 use Rattle.landing.proofs.header_free_named.Tie as tie
@@ -27,7 +27,10 @@ same-length c = search needs
 
 returns-2 : tie.Need-returns-2
 unfolding headerFreeNamed
-returns-2 c = writes-as _ _ _ _ _ (rw (sym (c .before .before .before .before .before .before .before .form-named .ensures) ∙ c .before .before .before .before .before .named2 .given .1)) (c .before .before .write-header-free .ensures)
+returns-2 c =
+    let at-named2 = c .before .before .before .before .before in
+    let at-form-named = at-named2 .before .before in
+    writes-as _ _ _ _ _ (rw (sym (at-form-named .form-named .ensures) ∙ at-named2 .named2 .given .1)) (c .before .before .write-header-free .ensures)
 
 pub header-free-named-spec : {M : Type 1} → statement M
 header-free-named-spec =

@@ -1,7 +1,6 @@
 -- `landing::locate_named` meets its contract. Assumes nothing.
 use mathlib.Core.Path.{sym, _∙_}
 use borrow.Author.Needs.{needs}
-use Rattle.frame.specs.Table.{evrc}
 use Rattle.landing.proofs.HostLaws.{given-refused, given-agreed}
 use Rattle.landing.proofs.locate_named.Statement.{statement}
 use Rattle.landing.proofs.locate_named.Tie as tie
@@ -19,10 +18,12 @@ locate-requires : tie.Need-locate-requires
 locate-requires c κs = search needs
 
 returns : tie.Need-returns
-returns c = given-refused evrc _ _ _ (sym (c .before .before .before .form-named .ensures) ∙ c .before .named .given .1) _
+returns c = given-refused _ _ _ (sym (c .before .before .before .form-named .ensures) ∙ c .before .named .given .1) _
 
 returns-2 : tie.Need-returns-2
-returns-2 c = c .locate .ensures ∙ given-agreed evrc _ _ _ (sym (c .before .before .before .before .form-named .ensures) ∙ c .before .before .named2 .given .1) _
+returns-2 c =
+    let at-form-named = c .before .before .before .before in
+    c .locate .ensures ∙ given-agreed _ _ _ (sym (at-form-named .form-named .ensures) ∙ c .before .before .named2 .given .1) _
 
 pub locate-named-spec : {M : Type 1} → statement M
 locate-named-spec =

@@ -14,7 +14,9 @@ same-length : tie.Need-same-length
 same-length c = search needs
 
 returns : tie.Need-returns
-returns c = capture-told _ _ _ _ _ _ _ _ _ (c .before .before .before .before .«record» .ensures) (c .tell-recorded .ensures)
+returns c =
+    let at-record = c .before .before .before .before in
+    capture-told _ _ _ _ _ _ _ _ (at-record .«record» .ensures) (c .tell-recorded .ensures)
 
 pub lv-capture-record-spec : {M : Type 1} → statement M
 lv-capture-record-spec =

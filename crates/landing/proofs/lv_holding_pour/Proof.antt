@@ -14,7 +14,9 @@ same-length : tie.Need-same-length
 same-length c = search needs
 
 returns : tie.Need-returns
-returns c = write-told _ _ _ _ _ _ _ (c .before .before .before .before .pour-holding .ensures) (c .tell-written .ensures)
+returns c =
+    let at-pour-holding = c .before .before .before .before in
+    write-told _ _ _ _ _ _ _ (at-pour-holding .pour-holding .ensures) (c .tell-written .ensures)
 
 pub lv-holding-pour-spec : {M : Type 1} → statement M
 lv-holding-pour-spec =

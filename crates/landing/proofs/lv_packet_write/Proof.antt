@@ -14,7 +14,9 @@ same-length : tie.Need-same-length
 same-length c = search needs
 
 returns : tie.Need-returns
-returns c = write-told _ _ _ _ _ _ _ (c .before .before .before .before .packet-named .ensures) (c .tell-written .ensures)
+returns c =
+    let at-packet-named = c .before .before .before .before in
+    write-told _ _ _ _ _ _ _ (at-packet-named .packet-named .ensures) (c .tell-written .ensures)
 
 pub lv-packet-write-spec : {M : Type 1} → statement M
 lv-packet-write-spec =

@@ -14,7 +14,9 @@ same-length : tie.Need-same-length
 same-length c = search needs
 
 returns : tie.Need-returns
-returns c = write-told _ _ _ _ _ _ _ (c .before .before .before .before .header-free-named .ensures) (c .tell-written .ensures)
+returns c =
+    let at-header-free-named = c .before .before .before .before in
+    write-told _ _ _ _ _ _ _ (at-header-free-named .header-free-named .ensures) (c .tell-written .ensures)
 
 pub lv-packet-write-header-free-spec : {M : Type 1} → statement M
 lv-packet-write-header-free-spec =

@@ -14,7 +14,10 @@ tell-place-requires : tie.Need-tell-place-requires
 tell-place-requires c κs = search needs
 
 returns : tie.Need-returns
-returns c = c .tell-place .ensures ∙ ap (λ (w : Located). placeAfter w (now (c .before .before .before .before .before .before .args .kind)) (now (c .before .before .before .before .before .before .args .start)) (now (c .before .before .before .before .before .before .args .size))) (c .before .before .before .before .locate-named .ensures)
+returns c =
+    let at-locate-named = c .before .before .before .before in
+    let start = at-locate-named .before .before in
+    c .tell-place .ensures ∙ ap (λ (w : Located). placeAfter w (now (start .args .kind)) (now (start .args .start)) (now (start .args .size))) (at-locate-named .locate-named .ensures)
 
 pub lv-payload-frame-spec : {M : Type 1} → statement M
 lv-payload-frame-spec = tie.close (tie.spec locate-named-requires tell-place-requires returns)

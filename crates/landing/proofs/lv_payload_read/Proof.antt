@@ -18,7 +18,9 @@ enum-known-held-2 : tie.Need-enum-known-held-2
 enum-known-held-2 c = search needs
 
 returns : tie.Need-returns
-returns c = packet-refused _ _ _ _ _ _ _ (sym (c .before .before .held .given .1) ∙ c .before .before .before .before .read-named .ensures) (c .number .ensures)
+returns c =
+    let at-read-named = c .before .before .before .before in
+    packet-refused _ _ _ _ _ _ _ (sym (c .before .before .held .given .1) ∙ at-read-named .read-named .ensures) (c .number .ensures)
 
 returns-2 : tie.Need-returns-2
 returns-2 c = packet-read _ _ _ _ _ _ _ _ _ (sym (c .before .held2 .given .1) ∙ c .before .before .before .read-named .ensures)

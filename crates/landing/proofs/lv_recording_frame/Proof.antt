@@ -14,7 +14,10 @@ tell-place-requires : tie.Need-tell-place-requires
 tell-place-requires c κs = search needs
 
 returns : tie.Need-returns
-returns c = c .tell-place .ensures ∙ ap (λ (w : Located). placeAfter w (now (c .before .before .before .before .before .before .args .kind)) (now (c .before .before .before .before .before .before .args .start)) (now (c .before .before .before .before .before .before .args .size))) (c .before .before .before .before .locate .ensures)
+returns c =
+    let at-locate = c .before .before .before .before in
+    let start = at-locate .before .before in
+    c .tell-place .ensures ∙ ap (λ (w : Located). placeAfter w (now (start .args .kind)) (now (start .args .start)) (now (start .args .size))) (at-locate .locate .ensures)
 
 pub lv-recording-frame-spec : {M : Type 1} → statement M
 lv-recording-frame-spec = tie.close (tie.spec locate-requires tell-place-requires returns)

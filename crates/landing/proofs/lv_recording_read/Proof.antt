@@ -18,7 +18,9 @@ enum-known-held-2 : tie.Need-enum-known-held-2
 enum-known-held-2 c = search needs
 
 returns : tie.Need-returns
-returns c = count-refused _ _ _ _ (sym (c .before .before .held .given .1) ∙ c .before .before .before .before .read .ensures) (c .number .ensures)
+returns c =
+    let at-read = c .before .before .before .before in
+    count-refused _ _ _ _ (sym (c .before .before .held .given .1) ∙ at-read .read .ensures) (c .number .ensures)
 
 returns-2 : tie.Need-returns-2
 returns-2 c = count-read _ _ _ (sym (c .before .held2 .given .1) ∙ c .before .before .before .read .ensures)

@@ -14,7 +14,9 @@ same-length : tie.Need-same-length
 same-length c = search needs
 
 returns : tie.Need-returns
-returns c = write-told _ _ _ _ _ _ _ (c .before .before .before .before .write .ensures) (c .tell-written .ensures)
+returns c =
+    let at-write = c .before .before .before .before in
+    write-told _ _ _ _ _ _ _ (at-write .write .ensures) (c .tell-written .ensures)
 
 pub lv-recording-write-spec : {M : Type 1} → statement M
 lv-recording-write-spec =

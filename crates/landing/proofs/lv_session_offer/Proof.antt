@@ -14,7 +14,9 @@ same-length : tie.Need-same-length
 same-length c = search needs
 
 returns : tie.Need-returns
-returns c = taken-on _ _ _ _ _ _ _ (c .tell-taken .ensures) (c .before .before .before .before .offer .ensures)
+returns c =
+    let at-offer = c .before .before .before .before in
+    taken-on _ _ _ _ _ _ _ (c .tell-taken .ensures) (at-offer .offer .ensures)
 
 pub lv-session-offer-spec : {M : Type 1} → statement M
 lv-session-offer-spec = tie.close (tie.spec offer-requires tell-taken-requires same-length returns)

@@ -17,7 +17,9 @@ same-length-2 : tie.Need-same-length-2
 same-length-2 c = search needs
 
 returns : tie.Need-returns
-returns c = pour-on _ _ _ _ _ _ _ _ _ (c .before .before .before .before .before .before .pour .ensures) (c .tell-written .ensures)
+returns c =
+    let at-pour = c .before .before .before .before .before .before in
+    pour-on _ _ _ _ _ _ _ _ _ (at-pour .pour .ensures) (c .tell-written .ensures)
 
 pub lv-session-pour-spec : {M : Type 1} → statement M
 lv-session-pour-spec =

@@ -1,7 +1,7 @@
 -- `landing::open_named` meets its contract.
 use mathlib.Core.Path.{sym, _∙_}
 use borrow.Author.Needs.{needs}
-use Rattle.landing.proofs.HostLaws.{open-agreed, open-short, open-unnamed}
+use Rattle.landing.proofs.HostLaws.{open-agreed, open-unnamed}
 use Rattle.landing.proofs.open_named.Statement.{statement}
 use Rattle.landing.proofs.open_named.Tie as tie
 
@@ -17,17 +17,19 @@ open-requires c κs = search needs
 enum-known-named-2 : tie.Need-enum-known-named-2
 enum-known-named-2 c = search needs
 
-returns : tie.Need-returns
-returns c = open-short _ _ _ _ (sym (c .before .before .before .before .form-named .ensures) ∙ c .before .before .named2 .given .1) (c .if1 .taken)
-
 same-length : tie.Need-same-length
 same-length c = search needs
 
-returns-2 : tie.Need-returns-2
-returns-2 c = open-agreed _ _ _ _ _ _ (sym (c .before .before .before .before .before .before .before .form-named .ensures) ∙ c .before .before .before .before .before .named .given .1) (c .before .before .«open» .ensures)
+returns : tie.Need-returns
+returns c =
+    let at-named = c .before .before .before .before .before in
+    let at-form-named = at-named .before .before in
+    open-agreed _ _ _ _ _ _ (sym (at-form-named .form-named .ensures) ∙ at-named .named .given .1) (c .before .before .«open» .ensures)
 
-returns-3 : tie.Need-returns-3
-returns-3 c = open-unnamed _ _ _ _ (sym (c .before .before .before .before .form-named .ensures) ∙ c .before .before .named2 .given .1) (c .if1 .left)
+returns-2 : tie.Need-returns-2
+returns-2 c =
+    let at-form-named = c .before .before .before in
+    open-unnamed _ _ _ _ (sym (at-form-named .form-named .ensures) ∙ c .before .named2 .given .1)
 
 pub open-named-spec : {M : Type 1} → statement M
 open-named-spec =
@@ -37,7 +39,6 @@ open-named-spec =
     enum-known-named
     open-requires
     enum-known-named-2
-    returns
     same-length
-    returns-2
-    returns-3)
+    returns
+    returns-2)

@@ -36,7 +36,9 @@ loop-less : tie.Need-loop-less Inv-loop μ-loop
 loop-less c = omega arith
 
 loop-again : tie.Need-loop-again Inv-loop μ-loop
-loop-again c = (omega arith, (simp length-set (c .before .before .loop .inv .1 .0), flag-more _ _ _ _ (c .before .before .loop .inv .1 .1) (c .before .before .before .pre) (c .before .loop-test .taken)))
+loop-again c =
+    let at-loop = c .before .before in
+    (omega arith, (simp length-set (at-loop .loop .inv .1 .0), flag-more _ _ _ _ (at-loop .loop .inv .1 .1) (c .before .before .before .pre) (c .before .loop-test .taken)))
 
 returns : tie.Need-returns Inv-loop μ-loop
 returns c = flags-all _ _ _ _ (c .before .loop .inv .1 .1) (c .before .before .pre) (c .before .loop .inv .0) (c .loop-test .left)

@@ -51,7 +51,13 @@ shared-slice-read-t16 : tie.Need-shared-slice-read-t16
 shared-slice-read-t16 c = search needs
 
 returns : tie.Need-returns
-returns c = holding-read _ _ _ (c .before .before .before .before .four .ensures) (c .before .before .before .two .ensures) (c .before .before .four2 .ensures) refl refl (c .before .before .before .before .before .before .before .flags-at .ensures) (c .before .before .before .before .before .before .marks-at .ensures) (c .before .before .before .before .before .room-at .ensures)
+returns c =
+    let at-four = c .before .before .before .before in
+    let at-room-at = at-four .before in
+    let at-marks-at = at-room-at .before in
+    let at-flags-at = at-marks-at .before in
+    holding-read _ _ _ (at-four .four .ensures) (c .before .before .before .two .ensures) (c .before .before .four2 .ensures) refl refl
+    (at-flags-at .flags-at .ensures) (at-marks-at .marks-at .ensures) (at-room-at .room-at .ensures)
 
 pub holding-at-spec : {M : Type 1} → statement M
 holding-at-spec =

@@ -1,7 +1,6 @@
 -- `lending::lay_session` meets its contract.
-use mathlib.Core.Path.{_≡_}
-use lib.ListN.{length}
 use borrow.Author.Needs.{needs}
+use Rattle.holding.specs.Group.{Shaped}
 use Rattle.lending.proofs.LaidLaws.{all-of-session}
 use Rattle.lending.proofs.lay_session.Statement.{statement}
 use Rattle.lending.proofs.lay_session.Tie as tie
@@ -20,10 +19,10 @@ same-length c = search needs
 
 returns : tie.Need-returns
 returns c =
-    let f : length (c .before .before .before .before .before .before .before .before .before .before .before .before .before .before .args .session .group .held) ≡ 8 = search needs in
-    let m : length (c .before .before .before .before .before .before .before .before .before .before .before .before .before .before .args .session .group .marks) ≡ 80 = search needs in
-    let r : length (c .before .before .before .before .before .before .before .before .before .before .before .before .before .before .args .session .group .room) ≡ 1760 = search needs in
-    all-of-session _ (record { long-held = f; long-marks = m; long-room = r }) _ _ _ _ (c .before .before .before .before .before .before .before .before .before .before .before .put-head .ensures) (c .before .before .before .before .before .before .put-holding .ensures) (c .before .before .fill .ensures)
+    let s : Shaped (c .before .before .before .before .before .before .before .before .before .before .before .before .before .before .args .session .group) = search needs in
+    let at-put-holding = c .before .before .before .before .before .before in
+    let at-put-head = at-put-holding .before .before .before .before .before in
+    all-of-session _ s _ _ _ _ (at-put-head .put-head .ensures) (at-put-holding .put-holding .ensures) (c .before .before .fill .ensures)
 
 pub lay-session-spec : {M : Type 1} → statement M
 lay-session-spec =

@@ -25,7 +25,9 @@ copy-shifted-requires : tie.Need-copy-shifted-requires
 copy-shifted-requires c κs = search needs
 
 returns : tie.Need-returns
-returns c = whole-shifted _ _ _ _ _ _ (length-replicate {A = ℕ} 80 0) (c .before .before .before .before .before .pre) (c .before .copy-shifted .ensures)
+returns c =
+    let start = c .before .before .before .before .before in
+    whole-shifted _ _ _ _ _ _ (length-replicate {A = ℕ} 80 0) (start .pre) (c .before .copy-shifted .ensures)
 
 pub marks-at-spec : {M : Type 1} → statement M
 marks-at-spec =

@@ -4,7 +4,7 @@ use mathlib.Core.List.{[], _∷_}
 use mathlib.Core.Path.{ap, _∙_}
 use native.Mathlib.Omega.{arith}
 use borrow.Author.Needs.{needs}
-use Rattle.octets.proofs.OctetLaws.{set-over}
+use Rattle.octets.proofs.OctetsLaws.{set-over}
 use Rattle.octets.specs.Octets.{over}
 use Rattle.lending.proofs.put_flag.Statement.{statement}
 use Rattle.lending.proofs.put_flag.Tie as tie
@@ -19,7 +19,9 @@ same-length : tie.Need-same-length
 same-length c = search needs
 
 returns : tie.Need-returns
-returns c = set-over _ _ _ (omega arith) ∙ ap (λ (x : ℕ). over (c .before .before .args .out .now) (c .before .before .args .at) (x ∷ [])) (c .flag .ensures)
+returns c =
+    let start = c .before .before in
+    set-over _ _ _ (omega arith) ∙ ap (λ (x : ℕ). over (start .args .out .now) (start .args .at) (x ∷ [])) (c .flag .ensures)
 
 pub put-flag-spec : {M : Type 1} → statement M
 put-flag-spec = tie.close (tie.spec flag-requires slice-write-out same-length returns)

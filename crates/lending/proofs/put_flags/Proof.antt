@@ -7,7 +7,7 @@ use native.Mathlib.Omega.{arith}
 use lib.Seq.{paste, paste-zero}
 use lib.ListN.{length, length-set}
 use borrow.Author.Needs.{needs}
-use Rattle.octets.proofs.OctetLaws.{change-more, change-all}
+use Rattle.octets.proofs.OctetsLaws.{change-more, change-all}
 use Rattle.lending.specs.Laid.{flagOctet}
 use Rattle.lending.proofs.put_flags.Statement.{statement}
 use Rattle.lending.proofs.put_flags.Tie as tie
@@ -19,7 +19,9 @@ abbrev μ-loop : tie.MeasureT-loop
 μ-loop out₀ at flags i₀ out i = length flags - i
 
 loop-holds : tie.Need-loop-holds Inv-loop μ-loop
-loop-holds c = (omega arith, (refl, paste-zero (c .before .before .args .out .now) (c .before .before .args .at) (map flagOctet (c .before .before .args .flags .now))))
+loop-holds c =
+    let start = c .before .before in
+    (omega arith, (refl, paste-zero (start .args .out .now) (start .args .at) (map flagOctet (start .args .flags .now))))
 
 shared-slice-read-flag : tie.Need-shared-slice-read-flag Inv-loop μ-loop
 shared-slice-read-flag c = omega arith
@@ -40,13 +42,24 @@ loop-less : tie.Need-loop-less Inv-loop μ-loop
 loop-less c = omega arith
 
 loop-again : tie.Need-loop-again Inv-loop μ-loop
-loop-again c = (omega arith, (simp length-set (c .before .before .before .loop .inv .1 .0), change-more flagOctet false (c .before .before .before .before .before .before .args .out .now) (c .before .before .before .before .before .before .args .at) (c .before .before .before .before .before .before .args .flags .now) _ (c .before .before .before .loop .i) _ (c .before .before .before .loop .inv .1 .1) (c .before .before .before .before .before .before .pre) (c .before .before .loop-test .taken) (c .flag .ensures)))
+loop-again c =
+    let at-loop = c .before .before .before in
+    let start = at-loop .before .before .before in (
+      omega arith,
+      (
+        simp length-set (at-loop .loop .inv .1 .0),
+        change-more flagOctet false (start .args .out .now) (start .args .at) (start .args .flags .now) _ (at-loop .loop .i) _
+            (at-loop .loop .inv .1 .1) (start .pre) (c .before .before .loop-test .taken) (c .flag .ensures),
+      ),
+    )
 
 same-length : tie.Need-same-length Inv-loop μ-loop
 same-length c = c .before .loop .inv .1 .0
 
 returns : tie.Need-returns Inv-loop μ-loop
-returns c = change-all flagOctet (c .before .before .before .before .args .out .now) (c .before .before .before .before .args .at) (c .before .before .before .before .args .flags .now) _ (c .before .loop .i) (c .before .loop .inv .1 .1) (c .before .loop .inv .0) (c .loop-test .left)
+returns c =
+    let start = c .before .before .before .before in
+    change-all flagOctet (start .args .out .now) (start .args .at) (start .args .flags .now) _ (c .before .loop .i) (c .before .loop .inv .1 .1) (c .before .loop .inv .0) (c .loop-test .left)
 
 pub put-flags-spec : {M : Type 1} → statement M
 put-flags-spec =

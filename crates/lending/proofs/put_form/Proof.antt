@@ -34,13 +34,17 @@ same-length : tie.Need-same-length
 same-length c = search needs
 
 returns : tie.Need-returns
-returns c = put-free _ _ _ _ (c .before .before .before .before .enum-told .given .1) (c .before .before .fill .ensures)
+returns c =
+    let at-enum-told = c .before .before .before .before in
+    put-free _ _ _ _ (at-enum-told .enum-told .given .1) (c .before .before .fill .ensures)
 
 same-length-2 : tie.Need-same-length-2
 same-length-2 c = search needs
 
 returns-2 : tie.Need-returns-2
-returns-2 c = put-interleaved _ _ _ _ (c .before .form .given .1) (c .before .before .before .before .pre)
+returns-2 c =
+    let start = c .before .before .before .before in
+    put-interleaved _ _ _ _ (c .before .form .given .1) (start .pre)
 
 pub put-form-spec : {M : Type 1} → statement M
 put-form-spec =

@@ -16,11 +16,8 @@ put-four-requires c κs = search needs
 put-flag-requires-2 : tie.Need-put-flag-requires-2
 put-flag-requires-2 c κs = search needs
 
-put-two-requires : tie.Need-put-two-requires
-put-two-requires c κs = search needs
-
-put-pair-requires : tie.Need-put-pair-requires
-put-pair-requires c κs = search needs
+put-last-requires : tie.Need-put-last-requires
+put-last-requires c κs = search needs
 
 fill-requires : tie.Need-fill-requires
 fill-requires c κs = search needs
@@ -29,7 +26,14 @@ same-length : tie.Need-same-length
 same-length c = search needs
 
 returns : tie.Need-returns
-returns c = head-laid _ _ _ _ _ _ _ _ _ (c .before .before .before .before .before .before .before .before .before .before .before .before .before .before .before .before .before .before .before .before .before .before .before .before .before .before .put-flag .ensures) (c .before .before .before .before .before .before .before .before .before .before .before .before .before .before .before .before .before .before .before .before .before .before .put-form .ensures) (c .before .before .before .before .before .before .before .before .before .before .before .before .before .before .before .before .before .before .put-four .ensures) (c .before .before .before .before .before .before .before .before .before .before .before .before .before .before .put-flag2 .ensures) (c .before .before .before .before .before .before .before .before .before .before .put-two .ensures) (c .before .before .before .before .before .before .put-pair .ensures) (c .before .before .fill .ensures)
+returns c =
+    let at-put-last = c .before .before .before .before .before .before in
+    let at-put-flag2 = at-put-last .before .before .before .before in
+    let at-put-four = at-put-flag2 .before .before .before .before in
+    let at-put-form = at-put-four .before .before .before .before in
+    let at-put-flag = at-put-form .before .before .before .before in
+    head-laid _ _ _ _ _ _ _ _ (at-put-flag .put-flag .ensures) (at-put-form .put-form .ensures) (at-put-four .put-four .ensures)
+    (at-put-flag2 .put-flag2 .ensures) (at-put-last .put-last .ensures) (c .before .before .fill .ensures)
 
 pub put-head-spec : {M : Type 1} → statement M
 put-head-spec =
@@ -39,8 +43,7 @@ put-head-spec =
     put-form-requires
     put-four-requires
     put-flag-requires-2
-    put-two-requires
-    put-pair-requires
+    put-last-requires
     fill-requires
     same-length
     returns)

@@ -18,7 +18,10 @@ same-length : tie.Need-same-length
 same-length c = search needs
 
 returns : tie.Need-returns
-returns c = holding-laid _ _ _ (omega (arith, c .before .before .before .before .before .before .before .before .before .pre)) _ _ (c .before .before .before .before .before .before .put-numbers .ensures) (c .before .before .put-frames .ensures)
+returns c =
+    let at-put-numbers = c .before .before .before .before .before .before in
+    let start = at-put-numbers .before .before .before in
+    holding-laid _ _ _ (omega (arith, start .pre)) _ _ (at-put-numbers .put-numbers .ensures) (c .before .before .put-frames .ensures)
 
 pub put-holding-spec : {M : Type 1} → statement M
 put-holding-spec =

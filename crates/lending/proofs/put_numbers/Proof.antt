@@ -26,11 +26,24 @@ add-put-pair c = search needs
 put-pair-requires : tie.Need-put-pair-requires
 put-pair-requires c κs = search needs
 
+add-fill : tie.Need-add-fill
+add-fill c = search needs
+
+fill-requires : tie.Need-fill-requires
+fill-requires c κs = search needs
+
 same-length : tie.Need-same-length
 same-length c = search needs
 
 returns : tie.Need-returns
-returns c = numbers-laid _ _ _ (omega (arith, c .before .before .before .before .before .before .before .before .before .before .before .before .before .before .before .before .before .pre)) _ _ _ _ (c .before .before .before .before .before .before .before .before .before .before .before .before .before .before .put-four .ensures) (c .before .before .before .before .before .before .before .before .before .before .put-two .ensures) (c .before .before .before .before .before .before .put-four2 .ensures) (c .before .before .put-pair .ensures)
+returns c =
+    let at-put-pair = c .before .before .before .before .before .before in
+    let at-put-four2 = at-put-pair .before .before .before .before in
+    let at-put-two = at-put-four2 .before .before .before .before in
+    let at-put-four = at-put-two .before .before .before .before in
+    let start = at-put-four .before .before .before in
+    numbers-laid _ _ _ (omega (arith, start .pre)) _ _ _ _ _
+    (at-put-four .put-four .ensures) (at-put-two .put-two .ensures) (at-put-four2 .put-four2 .ensures) (at-put-pair .put-pair .ensures) (c .before .before .fill .ensures)
 
 pub put-numbers-spec : {M : Type 1} → statement M
 put-numbers-spec =
@@ -43,5 +56,7 @@ put-numbers-spec =
     put-four-requires-2
     add-put-pair
     put-pair-requires
+    add-fill
+    fill-requires
     same-length
     returns)

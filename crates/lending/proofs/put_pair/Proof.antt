@@ -2,7 +2,7 @@
 use native.Mathlib.Omega.{arith}
 use lib.ListN.{length-set}
 use borrow.Author.Needs.{needs}
-use Rattle.octets.proofs.OctetLaws.{set-two}
+use Rattle.octets.proofs.OctetsLaws.{set-two}
 use Rattle.lending.proofs.put_pair.Statement.{statement}
 use Rattle.lending.proofs.put_pair.Tie as tie
 

@@ -25,7 +25,9 @@ copy-requires : tie.Need-copy-requires
 copy-requires c κs = search needs
 
 returns : tie.Need-returns
-returns c = whole-part _ _ _ _ _ (length-replicate {A = ℕ} 1760 0) (c .before .before .before .before .before .pre) (c .before .copy .ensures)
+returns c =
+    let start = c .before .before .before .before .before in
+    whole-part _ _ _ _ _ (length-replicate {A = ℕ} 1760 0) (start .pre) (c .before .copy .ensures)
 
 pub room-at-spec : {M : Type 1} → statement M
 room-at-spec =

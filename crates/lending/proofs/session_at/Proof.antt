@@ -30,7 +30,11 @@ shared-slice-read-t15 : tie.Need-shared-slice-read-t15
 shared-slice-read-t15 c = search needs
 
 returns : tie.Need-returns
-returns c = session-read _ _ refl (c .before .before .before .before .four .ensures) (c .before .before .before .before .before .before .before .form-at .ensures) (c .before .before .before .before .before .before .holding-at .ensures) refl (c .before .before .two .ensures) refl refl
+returns c =
+    let at-four = c .before .before .before .before in
+    let at-holding-at = at-four .before .before in
+    let at-form-at = at-holding-at .before in
+    session-read _ _ refl (at-four .four .ensures) (at-form-at .form-at .ensures) (at-holding-at .holding-at .ensures) refl (c .before .before .two .ensures) refl refl
 
 pub session-at-spec : {M : Type 1} → statement M
 session-at-spec =

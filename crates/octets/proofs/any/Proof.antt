@@ -4,7 +4,7 @@ use mathlib.Core.Path.{_≡_, refl}
 use native.Mathlib.Omega.{arith}
 use lib.ListN.{length, drop}
 use Rattle.octets.specs.Octets.{anySet}
-use Rattle.octets.proofs.OctetLaws.{any-again, any-found, any-end}
+use Rattle.octets.proofs.OctetsLaws.{any-again, any-found, any-end}
 use Rattle.octets.proofs.any.Statement.{statement}
 use Rattle.octets.proofs.any.Tie as tie
 
@@ -21,7 +21,9 @@ shared-slice-read-if1 : tie.Need-shared-slice-read-if1 Inv-loop μ-loop
 shared-slice-read-if1 c = omega arith
 
 returns : tie.Need-returns Inv-loop μ-loop
-returns c = any-found _ (c .before .before .before .loop .i) (c .before .before .before .loop .inv .1) (omega arith) (c .if1 .taken)
+returns c =
+    let at-loop = c .before .before .before in
+    any-found _ (at-loop .loop .i) (at-loop .loop .inv .1) (omega arith) (c .if1 .taken)
 
 add-i : tie.Need-add-i Inv-loop μ-loop
 add-i c = omega arith
@@ -30,7 +32,9 @@ loop-less : tie.Need-loop-less Inv-loop μ-loop
 loop-less c = omega arith
 
 loop-again : tie.Need-loop-again Inv-loop μ-loop
-loop-again c = (omega arith, any-again _ (c .before .before .before .loop .i) (c .before .before .before .loop .inv .1) (omega arith) (c .if1 .left))
+loop-again c =
+    let at-loop = c .before .before .before in
+    (omega arith, any-again _ (at-loop .loop .i) (at-loop .loop .inv .1) (omega arith) (c .if1 .left))
 
 returns-2 : tie.Need-returns-2 Inv-loop μ-loop
 returns-2 c = any-end _ (c .before .loop .i) (c .before .loop .inv .1) (c .loop-test .left)

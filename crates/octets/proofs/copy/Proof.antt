@@ -4,7 +4,7 @@ use mathlib.Core.Path.{_≡_, refl}
 use native.Mathlib.Omega.{arith}
 use lib.ListN.{length, length-set}
 use lib.Seq.{paste, paste-zero}
-use Rattle.octets.proofs.OctetLaws.{copy-more, copy-all}
+use Rattle.octets.proofs.OctetsLaws.{copy-more, copy-all}
 use Rattle.octets.proofs.copy.Statement.{statement}
 use Rattle.octets.proofs.copy.Tie as tie
 
@@ -34,9 +34,10 @@ loop-less c = omega arith
 
 loop-again : tie.Need-loop-again Inv-loop μ-loop
 loop-again c =
+    let at-loop = c .before .before in
     let st = c .before .before .before in
-    let i = c .before .before .loop .i in
-    let inv = c .before .before .loop .inv in
+    let i = at-loop .loop .i in
+    let inv = at-loop .loop .inv in
     (omega arith, (simp length-set (inv .1 .0), copy-more (st .args .dst .now) (st .args .at) (st .args .src .now) _ i (inv .1 .1) (st .pre) (c .before .loop-test .taken)))
 
 same-length : tie.Need-same-length Inv-loop μ-loop

@@ -7,7 +7,7 @@ use lib.Seq.{paste, paste-zero}
 use lib.ListN.{length, length-set}
 use borrow.Author.Needs.{needs}
 use Rattle.octets.specs.Octets.{shifted}
-use Rattle.octets.proofs.OctetLaws.{change-more, change-all}
+use Rattle.octets.proofs.OctetsLaws.{change-more, change-all}
 use Rattle.octets.proofs.copy_shifted.Statement.{statement}
 use Rattle.octets.proofs.copy_shifted.Tie as tie
 
@@ -18,7 +18,9 @@ abbrev μ-loop : tie.MeasureT-loop
 μ-loop dst₀ at src by i₀ dst i = length src - i
 
 loop-holds : tie.Need-loop-holds Inv-loop μ-loop
-loop-holds c = (omega arith, (refl, paste-zero (c .before .before .args .dst .now) (c .before .before .args .at) (map (shifted (c .before .before .args .by)) (c .before .before .args .src .now))))
+loop-holds c =
+    let start = c .before .before in
+    (omega arith, (refl, paste-zero (start .args .dst .now) (start .args .at) (map (shifted (start .args .by)) (start .args .src .now))))
 
 shared-slice-read-wrapping-add-u8 : tie.Need-shared-slice-read-wrapping-add-u8 Inv-loop μ-loop
 shared-slice-read-wrapping-add-u8 c = omega arith
@@ -39,13 +41,25 @@ loop-less : tie.Need-loop-less Inv-loop μ-loop
 loop-less c = omega arith
 
 loop-again : tie.Need-loop-again Inv-loop μ-loop
-loop-again c = (omega arith, (simp length-set (c .before .before .before .loop .inv .1 .0), change-more (shifted (c .before .before .before .before .before .before .args .by)) 0 (c .before .before .before .before .before .before .args .dst .now) (c .before .before .before .before .before .before .args .at) (c .before .before .before .before .before .before .args .src .now) _ (c .before .before .before .loop .i) _ (c .before .before .before .loop .inv .1 .1) (c .before .before .before .before .before .before .pre) (c .before .before .loop-test .taken) (c .wrapping-add-u8 .ensures)))
+loop-again c =
+    let at-loop = c .before .before .before in
+    let start = at-loop .before .before .before in (
+      omega arith,
+      (
+        simp length-set (at-loop .loop .inv .1 .0),
+        change-more (shifted (start .args .by)) 0 (start .args .dst .now) (start .args .at) (start .args .src .now) _ (at-loop .loop .i)
+            _ (at-loop .loop .inv .1 .1) (start .pre) (c .before .before .loop-test .taken) (c .wrapping-add-u8 .ensures),
+      ),
+    )
 
 same-length : tie.Need-same-length Inv-loop μ-loop
 same-length c = c .before .loop .inv .1 .0
 
 returns : tie.Need-returns Inv-loop μ-loop
-returns c = change-all (shifted (c .before .before .before .before .args .by)) (c .before .before .before .before .args .dst .now) (c .before .before .before .before .args .at) (c .before .before .before .before .args .src .now) _ (c .before .loop .i) (c .before .loop .inv .1 .1) (c .before .loop .inv .0) (c .loop-test .left)
+returns c =
+    let start = c .before .before .before .before in
+    change-all (shifted (start .args .by)) (start .args .dst .now) (start .args .at) (start .args .src .now) _ (c .before .loop .i)
+    (c .before .loop .inv .1 .1) (c .before .loop .inv .0) (c .loop-test .left)
 
 pub copy-shifted-spec : {M : Type 1} → statement M
 copy-shifted-spec =

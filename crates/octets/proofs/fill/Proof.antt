@@ -4,7 +4,7 @@ use mathlib.Core.Path.{_≡_, refl}
 use native.Mathlib.Omega.{arith}
 use lib.Seq.{paste, paste-zero}
 use lib.ListN.{length, length-set, replicate}
-use Rattle.octets.proofs.OctetLaws.{fill-more, fill-all}
+use Rattle.octets.proofs.OctetsLaws.{fill-more, fill-all}
 use Rattle.octets.proofs.fill.Statement.{statement}
 use Rattle.octets.proofs.fill.Tie as tie
 

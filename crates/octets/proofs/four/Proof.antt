@@ -2,7 +2,7 @@
 use Prim.Native.Nat.{ℕ, _+_, _*_}
 use mathlib.Core.Path.{_∙_, ap₂}
 use borrow.Author.Needs.{needs}
-use Rattle.octets.proofs.OctetLaws.{four-is}
+use Rattle.octets.proofs.OctetsLaws.{four-is}
 use Rattle.octets.proofs.four.Statement.{statement}
 use Rattle.octets.proofs.four.Tie as tie
 

@@ -1,6 +1,6 @@
 -- `octets::put_four` meets its contract.
 use borrow.Author.Needs.{needs}
-use Rattle.octets.proofs.OctetLaws.{put-four-is}
+use Rattle.octets.proofs.OctetsLaws.{put-four-is}
 use Rattle.octets.proofs.put_four.Statement.{statement}
 use Rattle.octets.proofs.put_four.Tie as tie
 
@@ -23,7 +23,10 @@ same-length : tie.Need-same-length
 same-length c = search needs
 
 returns : tie.Need-returns
-returns c = put-four-is _ _ _ _ _ (c .before .before .before .before .before .before .before .before .before .pre) (c .before .before .before .before .before .before .put-two .ensures) (c .before .before .put-two2 .ensures)
+returns c =
+    let at-put-two = c .before .before .before .before .before .before in
+    let start = at-put-two .before .before .before in
+    put-four-is _ _ _ _ _ (start .pre) (at-put-two .put-two .ensures) (c .before .before .put-two2 .ensures)
 
 pub put-four-spec : {M : Type 1} → statement M
 put-four-spec =

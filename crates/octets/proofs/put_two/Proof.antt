@@ -2,7 +2,7 @@
 use native.Mathlib.Omega.{arith}
 use lib.ListN.{length-set}
 use borrow.Author.Needs.{needs}
-use Rattle.octets.proofs.OctetLaws.{put-two-is}
+use Rattle.octets.proofs.OctetsLaws.{put-two-is}
 use Rattle.octets.proofs.put_two.Statement.{statement}
 use Rattle.octets.proofs.put_two.Tie as tie
 

@@ -4,7 +4,7 @@ use mathlib.Core.Path.{_≡_, refl, sym}
 use native.Mathlib.Omega.{arith}
 use lib.ListN.{length, drop}
 use Rattle.octets.specs.Octets.{sameOctets}
-use Rattle.octets.proofs.OctetLaws.{same-long, same-again, same-differ, same-end}
+use Rattle.octets.proofs.OctetsLaws.{same-long, same-again, same-differ, same-end}
 use Rattle.octets.proofs.same.Statement.{statement}
 use Rattle.octets.proofs.same.Tie as tie
 
@@ -28,7 +28,8 @@ shared-slice-read-if2-2 c = omega arith
 
 returns-2 : tie.Need-returns-2 Inv-loop μ-loop
 returns-2 c =
-    let lp = c .before .before .before .before in
+    let at-there = c .before .before .before .before in
+    let lp = at-there in
     same-differ _ _ (lp .loop .i) (lp .loop .inv .1) (omega arith) (omega arith) (c .if2 .taken)
 
 add-i : tie.Need-add-i Inv-loop μ-loop
@@ -39,7 +40,8 @@ loop-less c = omega arith
 
 loop-again : tie.Need-loop-again Inv-loop μ-loop
 loop-again c =
-    let lp = c .before .before .before .before in
+    let at-there = c .before .before .before .before in
+    let lp = at-there in
     (omega arith, same-again _ _ (lp .loop .i) (lp .loop .inv .1) (omega arith) (omega arith) (c .if2 .left))
 
 returns-3 : tie.Need-returns-3 Inv-loop μ-loop

@@ -1,7 +1,7 @@
 -- `octets::two` meets its contract.
 use mathlib.Core.Path.{_∙_}
 use borrow.Author.Needs.{needs}
-use Rattle.octets.proofs.OctetLaws.{two-is}
+use Rattle.octets.proofs.OctetsLaws.{two-is}
 use Rattle.octets.proofs.two.Statement.{statement}
 use Rattle.octets.proofs.two.Tie as tie
 

@@ -6,9 +6,9 @@ use native.Mathlib.Omega.{arith}
 use lib.ListN.{length, getD}
 use denote.Ref.{now}
 use borrow.Author.Needs.{needs}
-use Rattle.frame.proofs.TableLaws.{evrc-size}
+use Rattle.frame.proofs.FrameTableLaws.{rows-size}
 use Rattle.frame.specs.Entry.{typeOf}
-use Rattle.frame.specs.Table.{evrc}
+use Rattle.entries.specs.Kind.{kindOf}
 use Rattle.frame.specs.Places.{upTo}
 use Rattle.packet.specs.Packet.{packetFrames, bodiesOf, groupIn}
 use Rattle.packet.proofs.Picking.{next-body}
@@ -16,11 +16,11 @@ use Rattle.packet.proofs.bodies_size.Statement.{statement}
 use Rattle.packet.proofs.bodies_size.Tie as tie
 
 abbrev Inv-loop : tie.InvT-loop
-Inv-loop l n b entries size₀ k₀ size k =
-    (k ≤ b) × (size ≤ 22 * k) × (size ≡ length (bodiesOf (packetFrames l n k (groupIn evrc entries))))
+Inv-loop vocoder l n b entries size₀ k₀ size k =
+    (k ≤ b) × (size ≤ 22 * k) × (size ≡ length (bodiesOf (packetFrames l n k (groupIn (kindOf vocoder) entries))))
 
 abbrev μ-loop : tie.MeasureT-loop
-μ-loop l n b entries size₀ k₀ size k = b - k
+μ-loop vocoder l n b entries size₀ k₀ size k = b - k
 
 loop-holds : tie.Need-loop-holds Inv-loop μ-loop
 unfolding packetFrames upTo
@@ -36,7 +36,9 @@ body-size-requires : tie.Need-body-size-requires Inv-loop μ-loop
 body-size-requires c κs = search needs
 
 add-size : tie.Need-add-size Inv-loop μ-loop
-add-size c = omega (arith, c .body-size .ensures, evrc-size (typeOf (getD (now (c .before .before .before .before .before .before .args .entries)) (c .before .before .entry-of .result) 0)), c .before .before .before .before .before .before .pre .bundle-small)
+add-size c =
+    let start = c .before .before .before .before .before .before in
+    omega (arith, c .body-size .ensures, rows-size (start .args .vocoder) (typeOf (getD (now (start .args .entries)) (c .before .before .entry-of .result) 0)), start .pre .bundle-small)
 
 add-k : tie.Need-add-k Inv-loop μ-loop
 add-k c = omega arith
@@ -46,12 +48,19 @@ loop-less c = omega arith
 
 loop-again : tie.Need-loop-again Inv-loop μ-loop
 loop-again c =
-    let es = now (c .before .before .before .before .before .before .args .entries) in
-    let x = next-body evrc (c .before .before .before .before .before .before .args .l) (c .before .before .before .before .before .before .args .n) (c .before .before .before .before .before .before .args .b) (c .before .before .before .before .loop .k) es (groupIn evrc es) (c .before .before .entry-of .result) (c .body-size .result) (c .before .before .entry-of .ensures) (c .body-size .ensures) (c .before .before .before .loop-test .taken) in
-    (omega arith, omega (arith, c .body-size .ensures, evrc-size (typeOf (getD es (c .before .before .entry-of .result) 0))), omega (arith, x .total))
+    let at-entry-of = c .before .before in
+    let at-loop = at-entry-of .before .before in
+    let start = at-loop .before .before in
+    let es = now (start .args .entries) in
+    let x = next-body (kindOf (start .args .vocoder)) (start .args .l) (start .args .n) (start .args .b) (at-loop .loop .k) es (groupIn (kindOf (start .args .vocoder)) es)
+    (at-entry-of .entry-of .result) (c .body-size .result) (at-entry-of .entry-of .ensures) (c .body-size .ensures)
+    (c .before .before .before .loop-test .taken) in
+    (omega arith, omega (arith, c .body-size .ensures, rows-size (start .args .vocoder) (typeOf (getD es (at-entry-of .entry-of .result) 0))), omega (arith, x .total))
 
 returns : tie.Need-returns Inv-loop μ-loop
-returns c = let e : c .before .loop .k ≡ c .before .before .before .args .b = omega arith in (rw (← e) (c .before .loop .inv .2), omega arith)
+returns c =
+    let e : c .before .loop .k ≡ c .before .before .before .args .b = omega arith in
+    (rw (← e) (c .before .loop .inv .2), omega arith)
 
 pub bodies-size-spec : {M : Type 1} → statement M
 bodies-size-spec =

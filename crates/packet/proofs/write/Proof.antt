@@ -1,6 +1,6 @@
 -- `packet::write` meets its contract. Assumes nothing.
 use borrow.Author.Needs.{needs}
-use Rattle.frame.proofs.OutputLaws.{writes-refusal}
+use Rattle.answers.proofs.OutputsLaws.{writes-refusal}
 use Rattle.packet.specs.Writing.{packetMade}
 use Rattle.packet.proofs.write.Statement.{statement}
 use Rattle.packet.proofs.write.Tie as tie
@@ -22,7 +22,9 @@ same-length : tie.Need-same-length
 same-length c = search needs
 
 returns-2 : tie.Need-returns-2
-returns-2 c = rw (c .before .before .before .before .before .form .given .1) (c .before .before .write-interleaved .ensures)
+returns-2 c =
+    let at-form = c .before .before .before .before .before in
+    rw (at-form .form .given .1) (c .before .before .write-interleaved .ensures)
 
 pub write-spec : {M : Type 1} → statement M
 write-spec =

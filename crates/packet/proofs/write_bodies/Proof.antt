@@ -7,8 +7,8 @@ use lib.ListN.{length}
 use denote.Ref.{now}
 use borrow.Author.Needs.{needs}
 use Rattle.frame.specs.Places.{frameAt, upTo}
-use Rattle.frame.specs.Table.{evrc}
-use Rattle.octets.proofs.OctetLaws.{over-append, over-nothing}
+use Rattle.entries.specs.Kind.{kindOf}
+use Rattle.octets.proofs.OctetsLaws.{over-append, over-nothing}
 use Rattle.octets.specs.Octets.{over}
 use Rattle.packet.specs.Packet.{placeOf, packetFrames, bodiesOf, groupIn}
 use Rattle.packet.proofs.Picking.{next-body}
@@ -17,22 +17,26 @@ use Rattle.packet.proofs.write_bodies.Statement.{statement}
 use Rattle.packet.proofs.write_bodies.Tie as tie
 
 abbrev Inv-loop : tie.InvT-loop
-Inv-loop out₀ l n b entries to₀ k₀ out to k =
-    (k ≤ b) × (length out ≡ length out₀) × (to ≡ 1 + b + length (bodiesOf (packetFrames l n k (groupIn evrc entries)))) ×
-    (out ≡ over out₀ (1 + b) (bodiesOf (packetFrames l n k (groupIn evrc entries))))
+Inv-loop vocoder out₀ l n b entries to₀ k₀ out to k =
+    (k ≤ b) × (length out ≡ length out₀) × (to ≡ 1 + b + length (bodiesOf (packetFrames l n k (groupIn (kindOf vocoder) entries)))) ×
+    (out ≡ over out₀ (1 + b) (bodiesOf (packetFrames l n k (groupIn (kindOf vocoder) entries))))
 
 abbrev μ-loop : tie.MeasureT-loop
-μ-loop out₀ l n b entries to₀ k₀ out to k = b - k
+μ-loop vocoder out₀ l n b entries to₀ k₀ out to k = b - k
 
 add-to : tie.Need-add-to Inv-loop μ-loop
 add-to c = omega (arith, c .before .before .pre .0 .bundle-small)
 
 loop-holds : tie.Need-loop-holds Inv-loop μ-loop
 unfolding packetFrames upTo
-loop-holds c = (omega arith, refl, omega arith, over-nothing (now (c .before .before .args .out)) (1 + c .before .before .args .b))
+loop-holds c =
+    let start = c .before .before in
+    (omega arith, refl, omega arith, over-nothing (now (start .args .out)) (1 + start .args .b))
 
 entry-of-requires : tie.Need-entry-of-requires Inv-loop μ-loop
-entry-of-requires c κs = (c .before .before .before .before .pre .0, c .loop-test .taken)
+entry-of-requires c κs =
+    let start = c .before .before .before .before in
+    (start .pre .0, c .loop-test .taken)
 
 add-start : tie.Need-add-start Inv-loop μ-loop
 add-start c = omega (arith, c .entry-of .ensures .here)
@@ -57,37 +61,67 @@ part-copy-end c = omega (arith, c .before .before .before .entry-of .ensures .in
 
 copy-requires : tie.Need-copy-requires Inv-loop μ-loop
 copy-requires c κs =
-    let es = now (c .before .before .before .before .before .before .before .before .before .args .entries) in
-    let x = next-body evrc (c .before .before .before .before .before .before .before .before .before .args .l) (c .before .before .before .before .before .before .before .before .before .args .n) (c .before .before .before .before .before .before .before .before .before .args .b) (c .before .before .before .before .before .before .loop .k) es (groupIn evrc es) (c .before .before .before .before .entry-of .result) (c .before .before .body-size .result) (c .before .before .before .before .entry-of .ensures) (c .before .before .body-size .ensures) (c .before .before .before .before .before .loop-test .taken) in
-    omega (arith, ap length (x .part), x .octets, x .total, x .within, c .before .before .before .before .before .before .loop .inv .1, c .before .before .before .before .before .before .loop .inv .2, c .before .before .before .before .before .before .before .before .before .pre .1)
+    let at-body-size = c .before .before in
+    let at-entry-of = at-body-size .before .before in
+    let at-loop-test = at-entry-of .before in
+    let at-loop = at-loop-test .before in
+    let start = at-loop .before .before .before in
+    let es = now (start .args .entries) in
+    let x = next-body (kindOf (start .args .vocoder)) (start .args .l) (start .args .n) (start .args .b) (at-loop .loop .k) es (groupIn (kindOf (start .args .vocoder)) es)
+    (at-entry-of .entry-of .result) (at-body-size .body-size .result) (at-entry-of .entry-of .ensures)
+    (at-body-size .body-size .ensures) (at-loop-test .loop-test .taken) in
+    omega (arith, ap length (x .part), x .octets, x .total, x .within, at-loop .loop .inv .1, at-loop .loop .inv .2, start .pre .1)
 
 sub-to : tie.Need-sub-to Inv-loop μ-loop
 sub-to c = omega arith
 
 add-to-2 : tie.Need-add-to-2 Inv-loop μ-loop
 add-to-2 c =
-    let es = now (c .before .before .before .before .before .before .before .before .before .before .before .before .args .entries) in
-    let x = next-body evrc (c .before .before .before .before .before .before .before .before .before .before .before .before .args .l) (c .before .before .before .before .before .before .before .before .before .before .before .before .args .n) (c .before .before .before .before .before .before .before .before .before .before .before .before .args .b) (c .before .before .before .before .before .before .before .before .before .loop .k) es (groupIn evrc es) (c .before .before .before .before .before .before .before .entry-of .result) (c .before .before .before .before .before .body-size .result) (c .before .before .before .before .before .before .before .entry-of .ensures) (c .before .before .before .before .before .body-size .ensures) (c .before .before .before .before .before .before .before .before .loop-test .taken) in
-    omega (arith, x .total, x .within, c .before .before .before .before .before .before .before .before .before .loop .inv .2, c .before .before .before .before .before .before .before .before .before .before .before .before .pre .1)
+    let at-body-size = c .before .before .before .before .before in
+    let at-entry-of = at-body-size .before .before in
+    let at-loop-test = at-entry-of .before in
+    let at-loop = at-loop-test .before in
+    let start = at-loop .before .before .before in
+    let es = now (start .args .entries) in
+    let x = next-body (kindOf (start .args .vocoder)) (start .args .l) (start .args .n) (start .args .b) (at-loop .loop .k) es (groupIn (kindOf (start .args .vocoder)) es)
+    (at-entry-of .entry-of .result) (at-body-size .body-size .result) (at-entry-of .entry-of .ensures)
+    (at-body-size .body-size .ensures) (at-loop-test .loop-test .taken) in
+    omega (arith, x .total, x .within, at-loop .loop .inv .2, start .pre .1)
 
 add-k : tie.Need-add-k Inv-loop μ-loop
-add-k c = omega (arith, c .before .before .before .before .before .before .before .before .before .before .before .before .pre .0 .bundle-small)
+add-k c =
+    let start = c .before .before .before .before .before .before .before .before .before .before .before .before in
+    omega (arith, start .pre .0 .bundle-small)
 
 loop-less : tie.Need-loop-less Inv-loop μ-loop
 loop-less c = omega arith
 
 loop-again : tie.Need-loop-again Inv-loop μ-loop
 loop-again c =
-    let es = now (c .before .before .before .before .before .before .before .before .before .before .before .before .args .entries) in
-    let fs = groupIn evrc es in
-    let x = next-body evrc (c .before .before .before .before .before .before .before .before .before .before .before .before .args .l) (c .before .before .before .before .before .before .before .before .before .before .before .before .args .n) (c .before .before .before .before .before .before .before .before .before .before .before .before .args .b) (c .before .before .before .before .before .before .before .before .before .loop .k) es fs (c .before .before .before .before .before .before .before .entry-of .result) (c .before .before .before .before .before .body-size .result) (c .before .before .before .before .before .before .before .entry-of .ensures) (c .before .before .before .before .before .body-size .ensures) (c .before .before .before .before .before .before .before .before .loop-test .taken) in
-    let xs = bodiesOf (packetFrames (c .before .before .before .before .before .before .before .before .before .before .before .before .args .l) (c .before .before .before .before .before .before .before .before .before .before .before .before .args .n) (c .before .before .before .before .before .before .before .before .before .loop .k) fs) in
-    let f = frameAt fs (placeOf (c .before .before .before .before .before .before .before .before .before .before .before .before .args .l) (c .before .before .before .before .before .before .before .before .before .before .before .before .args .n) (c .before .before .before .before .before .before .before .before .before .loop .k)) in
-    let room : 1 + c .before .before .before .before .before .before .before .before .before .before .before .before .args .b ≤ length (now (c .before .before .before .before .before .before .before .before .before .before .before .before .args .out)) = omega (arith, c .before .before .before .before .before .before .before .before .before .before .before .before .pre .1) in (
+    let at-copy = c .before .before in
+    let at-body-size = at-copy .before .before .before in
+    let at-entry-of = at-body-size .before .before in
+    let at-loop-test = at-entry-of .before in
+    let at-loop = at-loop-test .before in
+    let start = at-loop .before .before .before in
+    let es = now (start .args .entries) in
+    let fs = groupIn (kindOf (start .args .vocoder)) es in
+    let x = next-body (kindOf (start .args .vocoder)) (start .args .l) (start .args .n) (start .args .b) (at-loop .loop .k) es fs (at-entry-of .entry-of .result)
+    (at-body-size .body-size .result) (at-entry-of .entry-of .ensures) (at-body-size .body-size .ensures)
+    (at-loop-test .loop-test .taken) in
+    let xs = bodiesOf (packetFrames (start .args .l) (start .args .n) (at-loop .loop .k) fs) in
+    let f = frameAt fs (placeOf (start .args .l) (start .args .n) (at-loop .loop .k)) in
+    let room : 1 + start .args .b ≤ length (now (start .args .out)) = omega (arith, start .pre .1) in (
       omega arith,
-      c .before .before .copy .kept .0 ∙ c .before .before .before .before .before .before .before .before .before .loop .inv .1,
-      omega (arith, x .total, c .before .before .before .before .before .before .before .before .before .loop .inv .2),
-      c .before .before .copy .ensures ∙ ap (over (c .before .before .before .before .before .before .before .before .before .loop .out) (c .before .before .before .before .before .before .before .before .before .loop .to)) (x .part) ∙ ap (λ (i : ℕ). over (c .before .before .before .before .before .before .before .before .before .loop .out) i (f .body)) (c .before .before .before .before .before .before .before .before .before .loop .inv .2) ∙ ap (λ (l : List ℕ). over l (1 + c .before .before .before .before .before .before .before .before .before .before .before .before .args .b + length xs) (f .body)) (c .before .before .before .before .before .before .before .before .before .loop .inv .3) ∙ over-append (now (c .before .before .before .before .before .before .before .before .before .before .before .before .args .out)) (1 + c .before .before .before .before .before .before .before .before .before .before .before .before .args .b) xs (f .body) room ∙ ap (over (now (c .before .before .before .before .before .before .before .before .before .before .before .before .args .out)) (1 + c .before .before .before .before .before .before .before .before .before .before .before .before .args .b)) (sym (bodies-next (c .before .before .before .before .before .before .before .before .before .before .before .before .args .l) (c .before .before .before .before .before .before .before .before .before .before .before .before .args .n) (c .before .before .before .before .before .before .before .before .before .loop .k) fs)),
+      at-copy .copy .kept .0 ∙ at-loop .loop .inv .1,
+      omega (arith, x .total, at-loop .loop .inv .2),
+      at-copy .copy .ensures
+          ∙ ap (over (at-loop .loop .out) (at-loop .loop .to)) (x .part)
+          ∙ ap (λ (i : ℕ). over (at-loop .loop .out) i (f .body)) (at-loop .loop .inv .2)
+          ∙ ap (λ (l : List ℕ). over l (1 + start .args .b + length xs) (f .body)) (at-loop .loop .inv .3)
+          ∙ over-append (now (start .args .out)) (1 + start .args .b) xs (f .body) room
+          ∙ ap (over (now (start .args .out)) (1 + start .args .b))
+          (sym (bodies-next (start .args .l) (start .args .n) (at-loop .loop .k) fs)),
     )
 
 same-length : tie.Need-same-length Inv-loop μ-loop
@@ -95,8 +129,14 @@ same-length c = c .before .loop .inv .1
 
 returns : tie.Need-returns Inv-loop μ-loop
 returns c =
-    let e : c .before .loop .k ≡ c .before .before .before .before .args .b = omega arith in
-    c .before .loop .inv .3 ∙ ap (λ (j : ℕ). over (now (c .before .before .before .before .args .out)) (1 + c .before .before .before .before .args .b) (bodiesOf (packetFrames (c .before .before .before .before .args .l) (c .before .before .before .before .args .n) j (groupIn evrc (now (c .before .before .before .before .args .entries)))))) e
+    let start = c .before .before .before .before in
+    let e : c .before .loop .k ≡ start .args .b = omega arith in
+    c .before .loop .inv .3
+    ∙ ap
+    (λ (j : ℕ).
+    over (now (start .args .out)) (1 + start .args .b)
+    (bodiesOf (packetFrames (start .args .l) (start .args .n) j (groupIn (kindOf (start .args .vocoder)) (now (start .args .entries))))))
+    e
 
 pub write-bodies-spec : {M : Type 1} → statement M
 write-bodies-spec =

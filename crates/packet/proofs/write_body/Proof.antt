@@ -4,9 +4,8 @@ use native.Mathlib.Omega.{arith}
 use lib.ListN.{length-drop}
 use denote.Ref.{now}
 use borrow.Author.Needs.{needs}
-use Rattle.frame.proofs.OutputLaws.{writes-refusal, writes-no-room, writes-octets}
-use Rattle.frame.specs.Table.{evrc}
-use Rattle.octets.proofs.OctetLaws.{to-the-end}
+use Rattle.answers.proofs.OutputsLaws.{writes-refusal, writes-no-room, writes-octets}
+use Rattle.octets.proofs.OctetsLaws.{to-the-end}
 use Rattle.octets.specs.Octets.{over}
 use Rattle.packet.proofs.Choosing.{body-refused, body-count, one-made}
 use Rattle.packet.proofs.write_body.Statement.{statement}
@@ -22,19 +21,34 @@ enum-known-held-2 : tie.Need-enum-known-held-2
 enum-known-held-2 c = search needs
 
 returns : tie.Need-returns
-returns c = writes-refusal _ _ _ (body-count _ _ (sym (c .before .before .held2 .given .1) ∙ c .before .before .before .before .count .ensures) (c .if1 .taken))
+returns c =
+    let at-count = c .before .before .before .before in
+    writes-refusal _ _ _ (body-count _ _ (sym (c .before .before .held2 .given .1) ∙ at-count .count .ensures) (c .if1 .taken))
 
 sub-body : tie.Need-sub-body
-sub-body c = one-made evrc _ _ (sym (c .before .before .held2 .given .1) ∙ c .before .before .before .before .count .ensures) (c .if1 .left) .some
+sub-body c =
+    let at-count = c .before .before .before .before in
+    one-made _ _ _ (sym (c .before .before .held2 .given .1) ∙ at-count .count .ensures) (c .if1 .left) .some
 
 returns-2 : tie.Need-returns-2
-returns-2 c = writes-no-room _ _ _ (one-made evrc _ _ (sym (c .before .before .before .held2 .given .1) ∙ c .before .before .before .before .before .count .ensures) (c .before .if1 .left) .made) (omega (arith, length-drop 1 (now (c .before .before .before .before .before .before .before .before .args .entries))))
+returns-2 c =
+    let at-count = c .before .before .before .before .before in
+    let start = at-count .before .before .before in
+    writes-no-room _ _ _
+    (one-made _ _ _ (sym (c .before .before .before .held2 .given .1) ∙ at-count .count .ensures) (c .before .if1 .left) .made)
+    (omega (arith, length-drop 1 (now (start .args .entries))))
 
 sub-copy : tie.Need-sub-copy
-sub-copy c = one-made evrc _ _ (sym (c .before .before .before .before .held2 .given .1) ∙ c .before .before .before .before .before .before .count .ensures) (c .before .before .if1 .left) .some
+sub-copy c =
+    let at-held2 = c .before .before .before .before in
+    let at-count = at-held2 .before .before in
+    one-made _ _ _ (sym (at-held2 .held2 .given .1) ∙ at-count .count .ensures) (c .before .before .if1 .left) .some
 
 part-copy-start : tie.Need-part-copy-start
-part-copy-start c = one-made evrc _ _ (sym (c .before .before .before .before .held2 .given .1) ∙ c .before .before .before .before .before .before .count .ensures) (c .before .before .if1 .left) .some
+part-copy-start c =
+    let at-held2 = c .before .before .before .before in
+    let at-count = at-held2 .before .before in
+    one-made _ _ _ (sym (at-held2 .held2 .given .1) ∙ at-count .count .ensures) (c .before .before .if1 .left) .some
 
 part-copy-end : tie.Need-part-copy-end
 part-copy-end c = search needs
@@ -49,7 +63,14 @@ same-length : tie.Need-same-length
 same-length c = search needs
 
 returns-4 : tie.Need-returns-4
-returns-4 c = writes-octets _ _ _ _ _ (one-made evrc _ _ (sym (c .before .before .before .before .before .before .before .before .held2 .given .1) ∙ c .before .before .before .before .before .before .before .before .before .before .count .ensures) (c .before .before .before .before .before .before .if1 .left) .made) (omega (arith, length-drop 1 (now (c .before .before .before .before .before .before .before .before .before .before .before .before .before .args .entries)))) (sym (length-drop 1 (now (c .before .before .before .before .before .before .before .before .before .before .before .before .before .args .entries)))) (c .before .before .copy .ensures ∙ ap (over (now (c .before .before .before .before .before .before .before .before .before .before .before .before .before .args .out)) 0) (to-the-end (now (c .before .before .before .before .before .before .before .before .before .before .before .before .before .args .entries)) 1))
+returns-4 c =
+    let at-if1 = c .before .before .before .before .before .before in
+    let at-held2 = at-if1 .before .before in
+    let at-count = at-held2 .before .before in
+    let start = at-count .before .before .before in
+    writes-octets _ _ _ _ _ (one-made _ _ _ (sym (at-held2 .held2 .given .1) ∙ at-count .count .ensures) (at-if1 .if1 .left) .made)
+    (omega (arith, length-drop 1 (now (start .args .entries)))) (sym (length-drop 1 (now (start .args .entries))))
+    (c .before .before .copy .ensures ∙ ap (over (now (start .args .out)) 0) (to-the-end (now (start .args .entries)) 1))
 
 pub write-body-spec : {M : Type 1} → statement M
 write-body-spec =

@@ -6,9 +6,9 @@ use native.Mathlib.Omega.{arith}
 use lib.ListN.{length, length-set}
 use denote.Ref.{now}
 use borrow.Author.Needs.{needs}
-use Rattle.frame.proofs.OutputLaws.{writes-refusal, writes-no-room, writes-octets}
-use Rattle.frame.specs.Table.{evrc}
+use Rattle.answers.proofs.OutputsLaws.{writes-refusal, writes-no-room, writes-octets}
 use Rattle.octets.specs.Octets.{over}
+use Rattle.entries.specs.Kind.{kindOf}
 use Rattle.packet.specs.Packet.{packetFrames, bodiesOf, groupIn}
 use Rattle.packet.proofs.Choosing.{group-refused, group-count, group-made}
 use Rattle.packet.proofs.Packing.{length-packed, packed-over}
@@ -29,26 +29,43 @@ add-if1 : tie.Need-add-if1
 add-if1 c = search needs
 
 mul-if1 : tie.Need-mul-if1
-mul-if1 c = omega (arith, group-small (c .before .before .before .before .before .before .args .l) (c .before .before .before .before .before .before .args .b) (c .before .before .before .before .before .before .pre .0) (c .before .before .before .before .before .before .pre .3))
+mul-if1 c =
+    let start = c .before .before .before .before .before .before in
+    omega (arith, group-small (start .args .l) (start .args .b) (start .pre .0) (start .pre .3))
 
 returns : tie.Need-returns
-returns c = writes-refusal _ _ _ (group-count _ _ _ _ _ _ (sym (c .before .before .held2 .given .1) ∙ c .before .before .before .before .count .ensures) (c .if1 .taken))
+returns c =
+    let at-count = c .before .before .before .before in
+    writes-refusal _ _ _ (group-count _ _ _ _ _ _ (sym (c .before .before .held2 .given .1) ∙ at-count .count .ensures) (c .if1 .taken))
 
 add-size : tie.Need-add-size
 add-size c = search needs
 
 bodies-size-requires : tie.Need-bodies-size-requires
 bodies-size-requires c κs =
-    let g = group-made evrc _ (c .before .before .before .before .before .before .before .args .n) _ (c .before .before .before .before .before .before .before .args .d) _ _ (sym (c .before .before .held2 .given .1) ∙ c .before .before .before .before .count .ensures) (c .if1 .left) in
-    record { length-small = c .before .before .before .before .before .before .before .pre .0; index-in = c .before .before .before .before .before .before .before .pre .1; bundle-small = c .before .before .before .before .before .before .before .pre .3; there = omega (arith, g .count) }
+    let at-count = c .before .before .before .before in
+    let start = at-count .before .before .before in
+    let g = group-made _ _ (start .args .n) _ (start .args .d) _ _ (sym (c .before .before .held2 .given .1) ∙ at-count .count .ensures) (c .if1 .left) in
+    record { length-small = start .pre .0; index-in = start .pre .1; bundle-small = start .pre .3; there = omega (arith, g .count) }
 
 add-size-2 : tie.Need-add-size-2
-add-size-2 c = omega (arith, c .bodies-size .ensures .1, c .before .before .before .before .before .before .before .before .pre .3)
+add-size-2 c =
+    let start = c .before .before .before .before .before .before .before .before in
+    omega (arith, c .bodies-size .ensures .1, start .pre .3)
 
 returns-2 : tie.Need-returns-2
 returns-2 c =
-    let g = group-made evrc (c .before .before .before .before .before .before .before .before .before .args .l) (c .before .before .before .before .before .before .before .before .before .args .n) (c .before .before .before .before .before .before .before .before .before .args .b) (c .before .before .before .before .before .before .before .before .before .args .d) _ (now (c .before .before .before .before .before .before .before .before .before .args .entries)) (sym (c .before .before .before .before .held2 .given .1) ∙ c .before .before .before .before .before .before .count .ensures) (c .before .before .if1 .left) in
-    writes-no-room _ _ _ (g .made) (omega (arith, length-packed (c .before .before .before .before .before .before .before .before .before .args .l) (c .before .before .before .before .before .before .before .before .before .args .n) (c .before .before .before .before .before .before .before .before .before .args .b) (c .before .before .before .before .before .before .before .before .before .args .d) (groupIn evrc (now (c .before .before .before .before .before .before .before .before .before .args .entries))), c .before .bodies-size .ensures .0))
+    let at-held2 = c .before .before .before .before in
+    let at-count = at-held2 .before .before in
+    let start = at-count .before .before .before in
+    let g = group-made (kindOf (start .args .vocoder)) (start .args .l) (start .args .n) (start .args .b) (start .args .d) _ (now (start .args .entries))
+    (sym (at-held2 .held2 .given .1) ∙ at-count .count .ensures) (c .before .before .if1 .left) in
+    writes-no-room _ _ _ (g .made)
+    (omega (
+      arith,
+      length-packed (start .args .l) (start .args .n) (start .args .b) (start .args .d) (groupIn (kindOf (start .args .vocoder)) (now (start .args .entries))),
+      c .before .bodies-size .ensures .0,
+    ))
 
 mul-out : tie.Need-mul-out
 mul-out c = search needs
@@ -61,29 +78,57 @@ slice-write-out c = search needs
 
 write-table-requires : tie.Need-write-table-requires
 write-table-requires c κs =
-    let g = group-made evrc (c .before .before .before .before .before .before .before .before .before .before .args .l) (c .before .before .before .before .before .before .before .before .before .before .args .n) (c .before .before .before .before .before .before .before .before .before .before .args .b) (c .before .before .before .before .before .before .before .before .before .before .args .d) _ (now (c .before .before .before .before .before .before .before .before .before .before .args .entries)) (sym (c .before .before .before .before .before .held2 .given .1) ∙ c .before .before .before .before .before .before .before .count .ensures) (c .before .before .before .if1 .left) in
-    (record { length-small = c .before .before .before .before .before .before .before .before .before .before .pre .0; index-in = c .before .before .before .before .before .before .before .before .before .before .pre .1; bundle-small = c .before .before .before .before .before .before .before .before .before .before .pre .3; there = omega (arith, g .count) }, c .before .before .before .before .before .before .before .before .before .before .pre .4, simp length-set (omega arith))
+    let at-held2 = c .before .before .before .before .before in
+    let at-count = at-held2 .before .before in
+    let start = at-count .before .before .before in
+    let g = group-made (kindOf (start .args .vocoder)) (start .args .l) (start .args .n) (start .args .b) (start .args .d) _ (now (start .args .entries))
+    (sym (at-held2 .held2 .given .1) ∙ at-count .count .ensures) (c .before .before .before .if1 .left) in
+    (record { length-small = start .pre .0; index-in = start .pre .1; bundle-small = start .pre .3; there = omega (arith, g .count) }, start .pre .4, simp length-set (omega arith))
 
 write-bodies-requires : tie.Need-write-bodies-requires
 write-bodies-requires c κs =
-    let g = group-made evrc (c .before .before .before .before .before .before .before .before .before .before .before .before .before .before .args .l) (c .before .before .before .before .before .before .before .before .before .before .before .before .before .before .args .n) (c .before .before .before .before .before .before .before .before .before .before .before .before .before .before .args .b) (c .before .before .before .before .before .before .before .before .before .before .before .before .before .before .args .d) _ (now (c .before .before .before .before .before .before .before .before .before .before .before .before .before .before .args .entries)) (sym (c .before .before .before .before .before .before .before .before .before .held2 .given .1) ∙ c .before .before .before .before .before .before .before .before .before .before .before .count .ensures) (c .before .before .before .before .before .before .before .if1 .left) in
-    let s : length (c .before .before .before .write-table .last .0) ≡ length (now (c .before .before .before .before .before .before .before .before .before .before .before .before .before .before .args .out)) = c .before .before .before .write-table .kept .0 ∙ simp length-set in
-    (record { length-small = c .before .before .before .before .before .before .before .before .before .before .before .before .before .before .pre .0; index-in = c .before .before .before .before .before .before .before .before .before .before .before .before .before .before .pre .1; bundle-small = c .before .before .before .before .before .before .before .before .before .before .before .before .before .before .pre .3; there = omega (arith, g .count) }, omega (arith, s, c .before .before .before .before .before .before .bodies-size .ensures .0, c .before .before .before .before .before .if2 .left))
+    let at-write-table = c .before .before .before in
+    let at-if2 = at-write-table .before .before in
+    let at-bodies-size = at-if2 .before in
+    let at-if1 = at-bodies-size .before in
+    let at-held2 = at-if1 .before .before in
+    let at-count = at-held2 .before .before in
+    let start = at-count .before .before .before in
+    let g = group-made (kindOf (start .args .vocoder)) (start .args .l) (start .args .n) (start .args .b) (start .args .d) _ (now (start .args .entries))
+    (sym (at-held2 .held2 .given .1) ∙ at-count .count .ensures) (at-if1 .if1 .left) in
+    let s : length (at-write-table .write-table .last .1 .0) ≡ length (now (start .args .out)) = at-write-table .write-table .kept .1 .0 ∙ simp length-set in (
+      record { length-small = start .pre .0; index-in = start .pre .1; bundle-small = start .pre .3; there = omega (arith, g .count) },
+      omega (arith, s, at-bodies-size .bodies-size .ensures .0, at-if2 .if2 .left),
+    )
 
 returns-3 : tie.Need-returns-3
 returns-3 c = writes-refusal _ _ _ (group-refused _ _ _ _ _ _ (sym (c .before .held .given .1) ∙ c .before .before .before .count .ensures))
 
 same-length : tie.Need-same-length
-same-length c = c .before .before .write-bodies .kept .0 ∙ c .before .before .before .before .before .before .write-table .kept .0 ∙ simp length-set
+same-length c =
+    let at-write-table = c .before .before .before .before .before .before in
+    c .before .before .write-bodies .kept .1 .0 ∙ at-write-table .write-table .kept .1 .0 ∙ simp length-set
 
 returns-4 : tie.Need-returns-4
 returns-4 c =
-    let es = now (c .before .before .before .before .before .before .before .before .before .before .before .before .before .before .before .before .before .args .entries) in
-    let fs = groupIn evrc es in
-    let g = group-made evrc (c .before .before .before .before .before .before .before .before .before .before .before .before .before .before .before .before .before .args .l) (c .before .before .before .before .before .before .before .before .before .before .before .before .before .before .before .before .before .args .n) (c .before .before .before .before .before .before .before .before .before .before .before .before .before .before .before .before .before .args .b) (c .before .before .before .before .before .before .before .before .before .before .before .before .before .before .before .before .before .args .d) _ es (sym (c .before .before .before .before .before .before .before .before .before .before .before .before .held2 .given .1) ∙ c .before .before .before .before .before .before .before .before .before .before .before .before .before .before .count .ensures) (c .before .before .before .before .before .before .before .before .before .before .if1 .left) in
-    let m = length-packed (c .before .before .before .before .before .before .before .before .before .before .before .before .before .before .before .before .before .args .l) (c .before .before .before .before .before .before .before .before .before .before .before .before .before .before .before .before .before .args .n) (c .before .before .before .before .before .before .before .before .before .before .before .before .before .before .before .before .before .args .b) (c .before .before .before .before .before .before .before .before .before .before .before .before .before .before .before .before .before .args .d) fs in
-    writes-octets _ _ _ _ _ (g .made) (omega (arith, c .before .before .before .before .before .before .before .before .before .bodies-size .ensures .0, c .before .before .before .before .before .before .before .before .if2 .left)) (omega (arith, c .before .before .before .before .before .before .before .before .before .bodies-size .ensures .0))
-    (c .before .before .write-bodies .ensures ∙ ap (λ (o : List ℕ). over o (1 + c .before .before .before .before .before .before .before .before .before .before .before .before .before .before .before .before .before .args .b) (bodiesOf (packetFrames (c .before .before .before .before .before .before .before .before .before .before .before .before .before .before .before .before .before .args .l) (c .before .before .before .before .before .before .before .before .before .before .before .before .before .before .before .before .before .args .n) (c .before .before .before .before .before .before .before .before .before .before .before .before .before .before .before .before .before .args .b) fs))) (c .before .before .before .before .before .before .write-table .ensures) ∙ packed-over (c .before .before .before .before .before .before .before .before .before .before .before .before .before .before .before .before .before .args .l) (c .before .before .before .before .before .before .before .before .before .before .before .before .before .before .before .before .before .args .n) (c .before .before .before .before .before .before .before .before .before .before .before .before .before .before .before .before .before .args .b) (c .before .before .before .before .before .before .before .before .before .before .before .before .before .before .before .before .before .args .d) fs (now (c .before .before .before .before .before .before .before .before .before .before .before .before .before .before .before .before .before .args .out)) (omega (arith, c .before .before .before .before .before .before .before .before .if2 .left)))
+    let at-write-table = c .before .before .before .before .before .before in
+    let at-if2 = at-write-table .before .before in
+    let at-bodies-size = at-if2 .before in
+    let at-if1 = at-bodies-size .before in
+    let at-held2 = at-if1 .before .before in
+    let at-count = at-held2 .before .before in
+    let start = at-count .before .before .before in
+    let es = now (start .args .entries) in
+    let fs = groupIn (kindOf (start .args .vocoder)) es in
+    let g = group-made (kindOf (start .args .vocoder)) (start .args .l) (start .args .n) (start .args .b) (start .args .d) _ es
+    (sym (at-held2 .held2 .given .1) ∙ at-count .count .ensures) (at-if1 .if1 .left) in
+    let m = length-packed (start .args .l) (start .args .n) (start .args .b) (start .args .d) fs in
+    writes-octets _ _ _ _ _ (g .made) (omega (arith, at-bodies-size .bodies-size .ensures .0, at-if2 .if2 .left)) (omega (arith, at-bodies-size .bodies-size .ensures .0))
+    (c .before .before .write-bodies .ensures
+    ∙ ap (λ (o : List ℕ). over o (1 + start .args .b) (bodiesOf (packetFrames (start .args .l) (start .args .n) (start .args .b) fs)))
+    (at-write-table .write-table .ensures)
+    ∙ packed-over (start .args .l) (start .args .n) (start .args .b) (start .args .d) fs (now (start .args .out))
+    (omega (arith, at-if2 .if2 .left)))
 
 pub write-group-spec : {M : Type 1} → statement M
 write-group-spec =

@@ -1,6 +1,6 @@
 -- `packet::write_header_free` meets its contract. Assumes nothing.
 use borrow.Author.Needs.{needs}
-use Rattle.frame.proofs.OutputLaws.{writes-refusal, writes-as}
+use Rattle.answers.proofs.OutputsLaws.{writes-refusal, writes-as}
 use Rattle.packet.specs.Writing.{headerFreeMade}
 use Rattle.packet.proofs.write_header_free.Statement.{statement}
 use Rattle.packet.proofs.write_header_free.Tie as tie
@@ -23,7 +23,9 @@ same-length c = search needs
 
 returns-2 : tie.Need-returns-2
 unfolding headerFreeMade
-returns-2 c = writes-as _ _ _ _ _ (rw (c .before .before .before .before .enum-told2 .given .1)) (c .before .before .write-body .ensures)
+returns-2 c =
+    let at-enum-told2 = c .before .before .before .before in
+    writes-as _ _ _ _ _ (rw (at-enum-told2 .enum-told2 .given .1)) (c .before .before .write-body .ensures)
 
 pub write-header-free-spec : {M : Type 1} → statement M
 write-header-free-spec =

@@ -1,7 +1,6 @@
 -- `payload::body` meets its contract: what a payload gives lies in it. Assumes nothing.
 use borrow.Author.Needs.{needs}
-use Rattle.frame.proofs.PlaceLaws.{very-body}
-use Rattle.frame.specs.Table.{evrc}
+use Rattle.frame.proofs.PlacesLaws.{very-body}
 use Rattle.payload.proofs.Laying.{laid-as}
 use Rattle.payload.proofs.body.Statement.{statement}
 use Rattle.payload.proofs.body.Tie as tie
@@ -13,7 +12,7 @@ part-requires : tie.Need-part-requires
 part-requires c κs = search needs
 
 returns : tie.Need-returns
-returns c = very-body _ _ _ _ _ (laid-as evrc _ _) (c .before .locate .ensures) (c .part .ensures)
+returns c = very-body _ _ _ _ _ (laid-as _ _ _) (c .before .locate .ensures) (c .part .ensures)
 
 pub body-spec : {M : Type 1} → statement M
 body-spec = tie.close (tie.spec locate-requires part-requires returns)

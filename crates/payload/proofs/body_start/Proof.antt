@@ -6,8 +6,8 @@ use native.Mathlib.Omega.{arith}
 use lib.ListN.{drop, take, getD}
 use denote.Ref.{now}
 use borrow.Author.Needs.{needs}
-use Rattle.frame.proofs.TableLaws.{evrc-size}
-use Rattle.frame.specs.Table.{evrc}
+use Rattle.frame.proofs.FrameTableLaws.{rows-size}
+use Rattle.frame.specs.FrameTable.{rowsOf}
 use Rattle.frame.specs.Entry.{typeOf}
 use Rattle.payload.specs.Payload.{total}
 use Rattle.payload.proofs.Laying.{start-next}
@@ -15,10 +15,10 @@ use Rattle.payload.proofs.body_start.Statement.{statement}
 use Rattle.payload.proofs.body_start.Tie as tie
 
 abbrev Inv-loop : tie.InvT-loop
-Inv-loop payload b k start₀ i₀ start i = (i ≤ k) × (start ≤ 256 + 22 * i) × (start ≡ 1 + b + total evrc (take i (map typeOf (drop 1 payload))))
+Inv-loop vocoder payload b k start₀ i₀ start i = (i ≤ k) × (start ≤ 256 + 22 * i) × (start ≡ 1 + b + total (rowsOf vocoder) (take i (map typeOf (drop 1 payload))))
 
 abbrev μ-loop : tie.MeasureT-loop
-μ-loop payload b k start₀ i₀ start i = k - i
+μ-loop vocoder payload b k start₀ i₀ start i = k - i
 
 add-start : tie.Need-add-start Inv-loop μ-loop
 add-start c = omega arith
@@ -36,16 +36,28 @@ body-size-requires : tie.Need-body-size-requires Inv-loop μ-loop
 body-size-requires c κs = search needs
 
 add-start-2 : tie.Need-add-start-2 Inv-loop μ-loop
-add-start-2 c = omega (arith, c .body-size .ensures, evrc-size (typeOf (getD (now (c .before .before .before .before .before .args .payload)) (c .before .before .before .loop .i + 1) 0)))
+add-start-2 c =
+    let start = c .before .before .before .before .before in
+    omega (arith, c .body-size .ensures, rows-size (start .args .vocoder) (typeOf (getD (now (start .args .payload)) (c .before .before .before .loop .i + 1) 0)))
 
 loop-less : tie.Need-loop-less Inv-loop μ-loop
 loop-less c = omega arith
 
 loop-again : tie.Need-loop-again Inv-loop μ-loop
-loop-again c = omega (arith, c .body-size .ensures, evrc-size (typeOf (getD (now (c .before .before .before .before .before .args .payload)) (c .before .before .before .loop .i + 1) 0)), start-next evrc (now (c .before .before .before .before .before .args .payload)) (c .before .before .before .loop .i) (omega arith))
+loop-again c =
+    let at-loop = c .before .before .before in
+    let start = at-loop .before .before in
+    omega (
+      arith,
+      c .body-size .ensures,
+      rows-size (start .args .vocoder) (typeOf (getD (now (start .args .payload)) (at-loop .loop .i + 1) 0)),
+      start-next (rowsOf (start .args .vocoder)) (now (start .args .payload)) (at-loop .loop .i) (omega arith),
+    )
 
 returns : tie.Need-returns Inv-loop μ-loop
-returns c = let e : c .before .loop .i ≡ c .before .before .before .args .k = omega arith in rw (← e) (c .before .loop .inv .2)
+returns c =
+    let e : c .before .loop .i ≡ c .before .before .before .args .k = omega arith in
+    rw (← e) (c .before .loop .inv .2)
 
 pub body-start-spec : {M : Type 1} → statement M
 body-start-spec =

@@ -4,23 +4,24 @@ use native.Mathlib.Omega.{arith}
 use lib.ListN.{length-drop}
 use denote.Ref.{now}
 use borrow.Author.Needs.{needs}
-use Rattle.frame.specs.Table.{evrc}
 use Rattle.payload.proofs.Checks.{no-octet, n-above, l-above, at-fault, bodies-cut, octets-left, exact}
 use Rattle.payload.proofs.Tables.{counted}
 use Rattle.payload.proofs.read_within.Statement.{statement}
 use Rattle.payload.proofs.read_within.Tie as tie
 
 returns : tie.Need-returns
-returns c = no-octet evrc _ _ (c .if1 .taken)
+returns c = no-octet _ _ _ (c .if1 .taken)
 
 shared-slice-read-head : tie.Need-shared-slice-read-head
 shared-slice-read-head c = search needs
 
 returns-2 : tie.Need-returns-2
-returns-2 c = n-above evrc _ _ (c .before .before .if1 .left) (c .if2 .taken)
+returns-2 c = n-above _ _ _ (c .before .before .if1 .left) (c .if2 .taken)
 
 returns-3 : tie.Need-returns-3
-returns-3 c = l-above evrc _ _ (c .before .before .before .before .if1 .left) (c .before .before .if2 .left) (c .if3 .taken)
+returns-3 c =
+    let at-if1 = c .before .before .before .before in
+    l-above _ _ _ (at-if1 .if1 .left) (c .before .before .if2 .left) (c .if3 .taken)
 
 walk-requires : tie.Need-walk-requires
 walk-requires c κs = search needs
@@ -35,22 +36,47 @@ sub-left : tie.Need-sub-left
 sub-left c = search needs
 
 sub-left-2 : tie.Need-sub-left-2
-sub-left-2 c = omega (arith, counted evrc _ _ _ _ _ (sym (c .before .entries2 .given .1) ∙ c .before .before .before .walk .ensures) .within, length-drop 1 (now (c .before .before .before .before .before .before .before .before .before .before .args .payload)))
+sub-left-2 c =
+    let start = c .before .before .before .before .before .before .before .before .before .before in
+    omega (arith, counted _ _ _ _ _ _ (sym (c .before .entries2 .given .1) ∙ c .before .before .before .walk .ensures) .within, length-drop 1 (now (start .args .payload)))
 
 returns-4 : tie.Need-returns-4
-returns-4 c = bodies-cut evrc _ _ (c .before .before .before .before .before .before .before .before .before .if1 .left) (c .before .before .before .before .before .before .before .if2 .left) (c .before .before .before .before .before .if3 .left) _ _ _ (sym (c .before .before .entries2 .given .1) ∙ c .before .before .before .before .walk .ensures) (c .if4 .taken)
+returns-4 c =
+    let at-walk = c .before .before .before .before in
+    let at-if3 = at-walk .before in
+    let at-if2 = at-if3 .before .before in
+    let at-if1 = at-if2 .before .before in
+    bodies-cut _ _ _ (at-if1 .if1 .left) (at-if2 .if2 .left) (at-if3 .if3 .left) _ _ _ (sym (c .before .before .entries2 .given .1) ∙ at-walk .walk .ensures) (c .if4 .taken)
 
 returns-5 : tie.Need-returns-5
-returns-5 c = octets-left evrc _ _ (c .before .before .before .before .before .before .before .before .before .before .if1 .left) (c .before .before .before .before .before .before .before .before .if2 .left) (c .before .before .before .before .before .before .if3 .left) _ _ _ (sym (c .before .before .before .entries2 .given .1) ∙ c .before .before .before .before .before .walk .ensures) (c .if5 .taken)
+returns-5 c =
+    let at-walk = c .before .before .before .before .before in
+    let at-if3 = at-walk .before in
+    let at-if2 = at-if3 .before .before in
+    let at-if1 = at-if2 .before .before in
+    octets-left _ _ _ (at-if1 .if1 .left) (at-if2 .if2 .left) (at-if3 .if3 .left) _ _ _ (sym (c .before .before .before .entries2 .given .1) ∙ at-walk .walk .ensures) (c .if5 .taken)
 
 cast-b : tie.Need-cast-b
-cast-b c = omega (arith, counted evrc _ _ _ _ _ (sym (c .before .before .before .entries2 .given .1) ∙ c .before .before .before .before .before .walk .ensures) .few, c .before .before .before .before .before .before .before .struct-known .given)
+cast-b c =
+    let at-walk = c .before .before .before .before .before in
+    let at-struct-known = at-walk .before .before in
+    omega (arith, counted _ _ _ _ _ _ (sym (c .before .before .before .entries2 .given .1) ∙ at-walk .walk .ensures) .few, at-struct-known .struct-known .given)
 
 returns-6 : tie.Need-returns-6
-returns-6 c = at-fault evrc _ _ (c .before .before .before .before .before .before .before .before .if1 .left) (c .before .before .before .before .before .before .if2 .left) (c .before .before .before .before .if3 .left) _ (sym (c .before .entries .given .1) ∙ c .before .before .before .walk .ensures)
+returns-6 c =
+    let at-if3 = c .before .before .before .before in
+    let at-if2 = at-if3 .before .before in
+    let at-if1 = at-if2 .before .before in
+    at-fault _ _ _ (at-if1 .if1 .left) (at-if2 .if2 .left) (at-if3 .if3 .left) _ (sym (c .before .entries .given .1) ∙ c .before .before .before .walk .ensures)
 
 returns-7 : tie.Need-returns-7
-returns-7 c = exact evrc _ _ (c .before .before .before .before .before .before .before .before .before .before .if1 .left) (c .before .before .before .before .before .before .before .before .if2 .left) (c .before .before .before .before .before .before .if3 .left) _ _ _ (sym (c .before .before .before .entries2 .given .1) ∙ c .before .before .before .before .before .walk .ensures) (c .before .if4 .left) (c .if5 .left)
+returns-7 c =
+    let at-walk = c .before .before .before .before .before in
+    let at-if3 = at-walk .before in
+    let at-if2 = at-if3 .before .before in
+    let at-if1 = at-if2 .before .before in
+    exact _ _ _ (at-if1 .if1 .left) (at-if2 .if2 .left) (at-if3 .if3 .left) _ _ _
+    (sym (c .before .before .before .entries2 .given .1) ∙ at-walk .walk .ensures) (c .before .if4 .left) (c .if5 .left)
 
 pub read-within-spec : {M : Type 1} → statement M
 read-within-spec =

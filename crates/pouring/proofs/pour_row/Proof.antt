@@ -7,59 +7,78 @@ use lib.ListN.{length-set}
 use lib.ListN.{length}
 use denote.Ref.{now}
 use borrow.Author.Needs.{needs}
-use Rattle.recording.specs.Entries.{entriesOf}
-use Rattle.frame.proofs.TableLaws.{evrc-size}
-use Rattle.frame.specs.Table.{evrc}
+use Rattle.entries.specs.Entries.{entriesOf}
+use Rattle.frame.proofs.FrameTableLaws.{rows-within, rows-size}
+use Rattle.frame.specs.FrameTable.{rowsOf}
 use Rattle.octets.specs.Octets.{over}
 use Rattle.pouring.specs.Pouring.{row, rowSize}
-use Rattle.pouring.proofs.PourLaws.{length-piece}
-use Rattle.pouring.proofs.PourLaws.{row-size-more, row-size-grows, row-more, row-none}
+use Rattle.pouring.proofs.PouringLaws.{length-piece, row-size-more, row-size-grows, row-more, row-none}
 use Rattle.pouring.proofs.pour_row.Statement.{statement}
 use Rattle.pouring.proofs.pour_row.Tie as tie
 
 abbrev Inv-loop : tie.InvT-loop
-Inv-loop marks room m k out₀ at next₀ n₀ out next n = (n ≤ m) × (length out ≡ length out₀) × (next ≡ at + rowSize evrc marks k n) × (out ≡ over out₀ at (entriesOf (row evrc marks room k n)))
+Inv-loop vocoder marks room m k out₀ at next₀ n₀ out next n =
+    (n ≤ m) × (length out ≡ length out₀) × (next ≡ at + rowSize (rowsOf vocoder) marks k n) × (out ≡ over out₀ at (entriesOf (row (rowsOf vocoder) marks room k n)))
 
 abbrev μ-loop : tie.MeasureT-loop
-μ-loop marks room m k out₀ at next₀ n₀ out next n = m - n
+μ-loop vocoder marks room m k out₀ at next₀ n₀ out next n = m - n
 
 loop-holds : tie.Need-loop-holds Inv-loop μ-loop
 unfolding rowSize
 loop-holds c = (omega arith, refl, sym (add-zero _), row-none _ _ _ _ _ _)
 
 mul-at-mark : tie.Need-mul-at-mark Inv-loop μ-loop
-mul-at-mark c = omega (arith, c .before .before .before .before .before .pre .2)
+mul-at-mark c =
+    let start = c .before .before .before .before .before in
+    omega (arith, start .pre .2)
 
 add-at-mark : tie.Need-add-at-mark Inv-loop μ-loop
-add-at-mark c = omega (arith, c .before .before .before .before .before .pre .2, c .before .before .before .before .before .pre .3)
+add-at-mark c =
+    let start = c .before .before .before .before .before in
+    omega (arith, start .pre .2, start .pre .3)
 
 shared-slice-read-mark : tie.Need-shared-slice-read-mark Inv-loop μ-loop
-shared-slice-read-mark c = omega (arith, c .before .before .before .before .before .before .pre .0, c .before .before .before .before .before .before .pre .2, c .before .before .before .before .before .before .pre .3)
+shared-slice-read-mark c =
+    let start = c .before .before .before .before .before .before in
+    omega (arith, start .pre .0, start .pre .2, start .pre .3)
 
 body-size-requires : tie.Need-body-size-requires Inv-loop μ-loop
 body-size-requires c κs = search needs
 
 mul-from : tie.Need-mul-from Inv-loop μ-loop
-mul-from c = omega (arith, c .before .before .before .before .before .before .before .pre .2)
+mul-from c =
+    let start = c .before .before .before .before .before .before .before in
+    omega (arith, start .pre .2)
 
 mul-from-2 : tie.Need-mul-from-2 Inv-loop μ-loop
-mul-from-2 c = omega (arith, c .before .before .before .before .before .before .before .pre .3)
+mul-from-2 c =
+    let start = c .before .before .before .before .before .before .before in
+    omega (arith, start .pre .3)
 
 add-from : tie.Need-add-from Inv-loop μ-loop
-add-from c = omega (arith, c .before .before .before .before .before .before .before .pre .2, c .before .before .before .before .before .before .before .pre .3)
+add-from c =
+    let start = c .before .before .before .before .before .before .before in
+    omega (arith, start .pre .2, start .pre .3)
 
 slice-write-out : tie.Need-slice-write-out Inv-loop μ-loop
 slice-write-out c =
-    let g = row-size-grows evrc (now (c .before .before .before .before .before .before .before .args .marks)) (c .before .before .before .before .before .before .before .args .k) (c .before .before .before .loop .n) (c .before .before .before .before .before .before .before .args .m) (omega arith) in
-    omega (arith, c .before .before .before .before .before .before .before .pre .4, c .before .before .before .loop .inv .1, c .before .before .before .loop .inv .2)
+    let at-loop = c .before .before .before in
+    let start = at-loop .before .before .before .before in
+    let g = row-size-grows (rowsOf (start .args .vocoder)) (now (start .args .marks)) (start .args .k) (at-loop .loop .n) (start .args .m) (omega arith) in
+    omega (arith, start .pre .4, at-loop .loop .inv .1, at-loop .loop .inv .2)
 
 add-copy : tie.Need-add-copy Inv-loop μ-loop
 add-copy c =
-    let g = row-size-grows evrc (now (c .before .before .before .before .before .before .before .before .args .marks)) (c .before .before .before .before .before .before .before .before .args .k) (c .before .before .before .before .loop .n) (c .before .before .before .before .before .before .before .before .args .m) (omega arith) in
-    omega (arith, c .before .before .before .before .before .before .before .before .pre .4, c .before .before .before .before .loop .inv .1, c .before .before .before .before .loop .inv .2)
+    let at-loop = c .before .before .before .before in
+    let start = at-loop .before .before .before .before in
+    let g = row-size-grows (rowsOf (start .args .vocoder)) (now (start .args .marks)) (start .args .k) (at-loop .loop .n) (start .args .m) (omega arith) in
+    omega (arith, start .pre .4, at-loop .loop .inv .1, at-loop .loop .inv .2)
 
 add-copy-2 : tie.Need-add-copy-2 Inv-loop μ-loop
-add-copy-2 c = let z : c .before .body-size .result ≤ 22 = rw (c .before .body-size .ensures) (evrc-size _) in omega (arith, c .before .before .before .before .before .before .before .before .pre .2, c .before .before .before .before .before .before .before .before .pre .3)
+add-copy-2 c =
+    let start = c .before .before .before .before .before .before .before .before in
+    let z : c .before .body-size .result ≤ 22 = rw (c .before .body-size .ensures) (rows-size (start .args .vocoder) _) in
+    omega (arith, start .pre .2, start .pre .3)
 
 sub-copy : tie.Need-sub-copy Inv-loop μ-loop
 sub-copy c = omega arith
@@ -68,45 +87,67 @@ part-copy-start : tie.Need-part-copy-start Inv-loop μ-loop
 part-copy-start c = omega arith
 
 part-copy-end : tie.Need-part-copy-end Inv-loop μ-loop
-part-copy-end c = let z : c .before .body-size .result ≤ 22 = rw (c .before .body-size .ensures) (evrc-size _) in omega (arith, c .before .before .before .before .before .before .before .before .pre .1, c .before .before .before .before .before .before .before .before .pre .2, c .before .before .before .before .before .before .before .before .pre .3)
+part-copy-end c =
+    let start = c .before .before .before .before .before .before .before .before in
+    let z : c .before .body-size .result ≤ 22 = rw (c .before .body-size .ensures) (rows-size (start .args .vocoder) _) in
+    omega (arith, start .pre .1, start .pre .2, start .pre .3)
 
 copy-requires : tie.Need-copy-requires Inv-loop μ-loop
 copy-requires c κs =
-    let g = row-size-grows evrc (now (c .before .before .before .before .before .before .before .before .before .args .marks)) (c .before .before .before .before .before .before .before .before .before .args .k) (c .before .before .before .before .before .loop .n) (c .before .before .before .before .before .before .before .before .before .args .m) (omega arith) in
-    let z = length-piece (now (c .before .before .before .before .before .before .before .before .before .args .room)) (220 * c .before .before .before .before .before .loop .n + 22 * c .before .before .before .before .before .before .before .before .before .args .k) (c .before .before .body-size .result) in
-    simp length-set (omega (arith, c .before .before .before .before .before .before .before .before .before .pre .4, c .before .before .before .before .before .loop .inv .1, c .before .before .before .before .before .loop .inv .2, c .before .before .body-size .ensures))
+    let at-body-size = c .before .before in
+    let at-loop = at-body-size .before .before .before in
+    let start = at-loop .before .before .before .before in
+    let g = row-size-grows (rowsOf (start .args .vocoder)) (now (start .args .marks)) (start .args .k) (at-loop .loop .n) (start .args .m) (omega arith) in
+    let z = length-piece (now (start .args .room)) (220 * at-loop .loop .n + 22 * start .args .k) (at-body-size .body-size .result) in
+    simp length-set (omega (arith, start .pre .4, at-loop .loop .inv .1, at-loop .loop .inv .2, at-body-size .body-size .ensures))
 
 add-next : tie.Need-add-next Inv-loop μ-loop
 add-next c =
-    let g = row-size-grows evrc (now (c .before .before .before .before .before .before .before .before .before .before .before .before .args .marks)) (c .before .before .before .before .before .before .before .before .before .before .before .before .args .k) (c .before .before .before .before .before .before .before .before .loop .n) (c .before .before .before .before .before .before .before .before .before .before .before .before .args .m) (omega arith) in
-    omega (arith, c .before .before .before .before .before .before .before .before .before .before .before .before .pre .4, c .before .before .before .before .before .before .before .before .loop .inv .1, c .before .before .before .before .before .before .before .before .loop .inv .2)
+    let at-loop = c .before .before .before .before .before .before .before .before in
+    let start = at-loop .before .before .before .before in
+    let g = row-size-grows (rowsOf (start .args .vocoder)) (now (start .args .marks)) (start .args .k) (at-loop .loop .n) (start .args .m) (omega arith) in
+    omega (arith, start .pre .4, at-loop .loop .inv .1, at-loop .loop .inv .2)
 
 add-next-2 : tie.Need-add-next-2 Inv-loop μ-loop
 add-next-2 c =
-    let g = row-size-grows evrc (now (c .before .before .before .before .before .before .before .before .before .before .before .before .args .marks)) (c .before .before .before .before .before .before .before .before .before .before .before .before .args .k) (c .before .before .before .before .before .before .before .before .loop .n) (c .before .before .before .before .before .before .before .before .before .before .before .before .args .m) (omega arith) in
-    omega (arith, c .before .before .before .before .before .before .before .before .before .before .before .before .pre .4, c .before .before .before .before .before .before .before .before .loop .inv .1, c .before .before .before .before .before .before .before .before .loop .inv .2, c .before .before .before .before .before .body-size .ensures)
+    let at-body-size = c .before .before .before .before .before in
+    let at-loop = at-body-size .before .before .before in
+    let start = at-loop .before .before .before .before in
+    let g = row-size-grows (rowsOf (start .args .vocoder)) (now (start .args .marks)) (start .args .k) (at-loop .loop .n) (start .args .m) (omega arith) in
+    omega (arith, start .pre .4, at-loop .loop .inv .1, at-loop .loop .inv .2, at-body-size .body-size .ensures)
 
 add-n : tie.Need-add-n Inv-loop μ-loop
-add-n c = omega (arith, c .before .before .before .before .before .before .before .before .before .before .before .before .pre .2)
+add-n c =
+    let start = c .before .before .before .before .before .before .before .before .before .before .before .before in
+    omega (arith, start .pre .2)
 
 loop-less : tie.Need-loop-less Inv-loop μ-loop
 loop-less c = omega arith
 
 loop-again : tie.Need-loop-again Inv-loop μ-loop
 loop-again c =
-    let g = row-size-grows evrc (now (c .before .before .before .before .before .before .before .before .before .before .before .before .args .marks)) (c .before .before .before .before .before .before .before .before .before .before .before .before .args .k) (c .before .before .before .before .before .before .before .before .loop .n) (c .before .before .before .before .before .before .before .before .before .before .before .before .args .m) (omega arith) in
-    let e = row-size-more evrc (now (c .before .before .before .before .before .before .before .before .before .before .before .before .args .marks)) (c .before .before .before .before .before .before .before .before .before .before .before .before .args .k) (c .before .before .before .before .before .before .before .before .loop .n) _ _ refl (c .before .before .before .before .before .body-size .ensures) in (
+    let at-copy = c .before .before in
+    let at-body-size = at-copy .before .before .before in
+    let at-loop = at-body-size .before .before .before in
+    let start = at-loop .before .before .before .before in
+    let g = row-size-grows (rowsOf (start .args .vocoder)) (now (start .args .marks)) (start .args .k) (at-loop .loop .n) (start .args .m) (omega arith) in
+    let e = row-size-more (rowsOf (start .args .vocoder)) (now (start .args .marks)) (start .args .k) (at-loop .loop .n) _ _ refl (at-body-size .body-size .ensures) in (
       omega arith,
-      c .before .before .copy .kept .0 ∙ simp length-set (c .before .before .before .before .before .before .before .before .loop .inv .1),
-      omega (arith, c .before .before .before .before .before .before .before .before .loop .inv .2),
-      row-more evrc tt _ _ (c .before .before .before .before .before .before .before .before .before .before .before .before .pre .1) (c .before .before .before .before .before .before .before .before .before .before .before .before .args .k) (c .before .before .before .before .before .before .before .before .loop .n) (omega (arith, c .before .before .before .before .before .before .before .before .before .before .before .before .pre .2)) (c .before .before .before .before .before .before .before .before .before .before .before .before .pre .3) _ _ _ _ _ _ (omega (arith, c .before .before .before .before .before .before .before .before .before .before .before .before .pre .4)) (omega (arith, c .before .before .before .before .before .before .before .before .before .before .before .before .pre .4, c .before .before .before .before .before .before .before .before .loop .inv .1, c .before .before .before .before .before .before .before .before .loop .inv .2)) (c .before .before .before .before .before .before .before .before .loop .inv .2) (c .before .before .before .before .before .before .before .before .loop .inv .3) (c .before .before .before .before .before .body-size .ensures) (c .before .before .copy .ensures),
+      at-copy .copy .kept .0 ∙ simp length-set (at-loop .loop .inv .1),
+      omega (arith, at-loop .loop .inv .2),
+      row-more (rowsOf (start .args .vocoder)) (rows-within (start .args .vocoder)) _ _ (start .pre .1) (start .args .k) (at-loop .loop .n) (omega (arith, start .pre .2)) (start .pre .3) _ _ _ _ _ _
+          (omega (arith, start .pre .4)) (omega (arith, start .pre .4, at-loop .loop .inv .1, at-loop .loop .inv .2))
+          (at-loop .loop .inv .2) (at-loop .loop .inv .3) (at-body-size .body-size .ensures) (at-copy .copy .ensures),
     )
 
 same-length : tie.Need-same-length Inv-loop μ-loop
 same-length c = c .before .loop .inv .1
 
 returns : tie.Need-returns Inv-loop μ-loop
-returns c = let e : c .before .loop .n ≡ c .before .before .before .before .before .args .m = omega arith in (rw e at (c .before .loop .inv .2), rw e at (c .before .loop .inv .3))
+returns c =
+    let start = c .before .before .before .before .before in
+    let e : c .before .loop .n ≡ start .args .m = omega arith in
+    (rw e at (c .before .loop .inv .2), rw e at (c .before .loop .inv .3))
 
 pub pour-row-spec : {M : Type 1} → statement M
 pour-row-spec =

@@ -1,10 +1,8 @@
 -- `recording::read` meets its contract. Assumes nothing.
 use mathlib.Core.Path.{sym, ap, _∙_}
 use borrow.Author.Needs.{needs}
-use Rattle.octets.proofs.OctetLaws.{to-the-end}
-use Rattle.frame.specs.Table.{evrc}
-use Rattle.recording.specs.Shown.{countedOf}
-use Rattle.recording.specs.Recording.{evrcOpening}
+use Rattle.octets.proofs.OctetsLaws.{to-the-end}
+use Rattle.entries.specs.Counting.{countedOf}
 use Rattle.recording.proofs.Answering.{opened, not-opened}
 use Rattle.recording.proofs.Opening.{long-enough}
 use Rattle.recording.proofs.read.Statement.{statement}
@@ -14,10 +12,10 @@ opens-requires : tie.Need-opens-requires
 opens-requires c κs = search needs
 
 sub-count : tie.Need-sub-count
-sub-count c = long-enough evrcOpening _ (sym (c .before .opens .ensures) ∙ c .if1 .taken)
+sub-count c = long-enough _ _ (sym (c .before .opens .ensures) ∙ c .if1 .taken)
 
 part-count-start : tie.Need-part-count-start
-part-count-start c = long-enough evrcOpening _ (sym (c .before .opens .ensures) ∙ c .if1 .taken)
+part-count-start c = long-enough _ _ (sym (c .before .opens .ensures) ∙ c .if1 .taken)
 
 part-count-end : tie.Need-part-count-end
 part-count-end c = search needs
@@ -26,10 +24,10 @@ count-requires : tie.Need-count-requires
 count-requires c κs = search needs
 
 returns : tie.Need-returns
-returns c = rw to-the-end at (c .count .ensures) ∙ sym (ap countedOf (opened evrc evrcOpening _ (sym (c .before .before .before .opens .ensures) ∙ c .before .before .if1 .taken)))
+returns c = rw to-the-end at (c .count .ensures) ∙ sym (ap countedOf (opened _ _ (sym (c .before .before .before .opens .ensures) ∙ c .before .before .if1 .taken)))
 
 returns-2 : tie.Need-returns-2
-returns-2 c = not-opened evrc evrcOpening _ (sym (c .before .opens .ensures) ∙ c .if1 .left)
+returns-2 c = not-opened _ _ (sym (c .before .opens .ensures) ∙ c .if1 .left)
 
 pub read-spec : {M : Type 1} → statement M
 read-spec =

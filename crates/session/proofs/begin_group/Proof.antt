@@ -14,15 +14,15 @@ cast-n c = search needs
 with-packet-requires : tie.Need-with-packet-requires
 with-packet-requires c κs = search needs
 
-holding-group-requires : tie.Need-holding-group-requires
-holding-group-requires c κs = search needs
+with-group-requires : tie.Need-with-group-requires
+with-group-requires c κs = search needs
 
 accepted-requires : tie.Need-accepted-requires
 accepted-requires c κs = search needs
 
 returns : tie.Need-returns
 unfolding begins
-returns c = c .accepted .ensures ∙ rw (c .before .holding-group .ensures, c .before .before .with-packet .ensures, c .before .before .before .before .begin .ensures)
+returns c = c .accepted .ensures ∙ rw (c .before .with-group .ensures, c .before .before .with-packet .ensures, c .before .before .before .before .begin .ensures)
 
 pub begin-group-spec : {M : Type 1} → statement M
 begin-group-spec =
@@ -31,6 +31,6 @@ begin-group-spec =
     begin-requires
     cast-n
     with-packet-requires
-    holding-group-requires
+    with-group-requires
     accepted-requires
     returns)

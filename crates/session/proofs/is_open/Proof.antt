@@ -15,10 +15,17 @@ is-group-right-requires : tie.Need-is-group-right-requires
 is-group-right-requires c κs = search needs
 
 returns : tie.Need-returns
-returns c = c .is-group-right .ensures ∙ by-group _ _ (c .before .before .before .before .before .if1 .taken) (sym (c .before .before .before .before .is-form-right .ensures) ∙ c .before .before .before .if2 .taken) (sym (c .before .before .is-last-right .ensures) ∙ c .before .if3 .taken)
+returns c =
+    let then = c .before .before .before in
+    let form = sym (then .before .is-form-right .ensures) ∙ then .if2 .taken in
+    let last = sym (c .before .before .is-last-right .ensures) ∙ c .before .if3 .taken in
+    c .is-group-right .ensures ∙ by-group _ _ (then .before .before .if1 .taken) form last
 
 returns-2 : tie.Need-returns-2
-returns-2 c = last-wrong _ _ (c .before .before .before .before .if1 .taken) (sym (c .before .before .before .is-form-right .ensures) ∙ c .before .before .if2 .taken) (sym (c .before .is-last-right .ensures) ∙ c .if3 .left)
+returns-2 c =
+    let then = c .before .before in
+    let form = sym (then .before .is-form-right .ensures) ∙ then .if2 .taken in
+    last-wrong _ _ (then .before .before .if1 .taken) form (sym (c .before .is-last-right .ensures) ∙ c .if3 .left)
 
 returns-3 : tie.Need-returns-3
 returns-3 c = form-wrong _ _ (c .before .before .if1 .taken) (sym (c .before .is-form-right .ensures) ∙ c .if2 .left)

@@ -1,26 +1,61 @@
 -- `session::place` meets its contract.
-use mathlib.Core.Path.{sym, _∙_}
+use mathlib.Core.Path.{_∙_}
 use borrow.Author.Needs.{needs}
-use Rattle.session.proofs.SessionLaws.{placed-alone, placed-in}
+use Rattle.session.proofs.SessionLaws.{it-begins, it-belongs, is-refused}
 use Rattle.session.proofs.place.Statement.{statement}
 use Rattle.session.proofs.place.Tie as tie
 
-is-empty-requires : tie.Need-is-empty-requires
-is-empty-requires c κs = search needs
+group-before-requires : tie.Need-group-before-requires
+group-before-requires c κs = search needs
 
-place-alone-requires : tie.Need-place-alone-requires
-place-alone-requires c κs = search needs
+decide-requires : tie.Need-decide-requires
+decide-requires c κs = search needs
 
-place-in-group-requires : tie.Need-place-in-group-requires
-place-in-group-requires c κs = search needs
+enum-known-verdict : tie.Need-enum-known-verdict
+enum-known-verdict c = search needs
+
+begin-group-requires : tie.Need-begin-group-requires
+begin-group-requires c κs = search needs
+
+enum-told : tie.Need-enum-told
+enum-told c = search needs
+
+put-in-requires : tie.Need-put-in-requires
+put-in-requires c κs = search needs
+
+enum-known-verdict-2 : tie.Need-enum-known-verdict-2
+enum-known-verdict-2 c = search needs
+
+refused-requires : tie.Need-refused-requires
+refused-requires c κs = search needs
 
 returns : tie.Need-returns
-returns c = placed-alone _ _ (sym (c .before .before .is-empty .ensures) ∙ c .before .if1 .taken) _ (c .place-alone .ensures)
+returns c =
+    let then = c .before .before .before .before in
+    c .begin-group .ensures ∙ it-begins _ _ _ _ (then .before .group-before .ensures) (then .decide .ensures) _ (c .before .before .verdict .given .1)
 
 returns-2 : tie.Need-returns-2
-returns-2 c = placed-in _ _ (sym (c .before .before .is-empty .ensures) ∙ c .before .if1 .left) _ (c .place-in-group .ensures)
+returns-2 c =
+    let then = c .before .before .before in
+    c .put-in .ensures ∙ it-belongs _ _ _ _ (then .before .group-before .ensures) (then .decide .ensures) (c .before .enum-told .given .1)
+
+returns-3 : tie.Need-returns-3
+returns-3 c =
+    let then = c .before .before .before .before in
+    c .refused .ensures ∙ is-refused _ _ _ _ (then .before .group-before .ensures) (then .decide .ensures) _ (c .before .before .verdict2 .given .1)
 
 pub place-spec : {M : Type 1} → statement M
 place-spec =
     tie.close
-    (tie.spec is-empty-requires place-alone-requires place-in-group-requires returns returns-2)
+    (tie.spec
+    group-before-requires
+    decide-requires
+    enum-known-verdict
+    begin-group-requires
+    enum-told
+    put-in-requires
+    enum-known-verdict-2
+    refused-requires
+    returns
+    returns-2
+    returns-3)

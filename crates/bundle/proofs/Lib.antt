@@ -1,0 +1,2 @@
+pub mod BundlesLaws
+pub mod LaidOutLaws

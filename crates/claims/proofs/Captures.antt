@@ -1,0 +1,122 @@
+-- What holds of every capture. Assumes nothing.
+use Prim.Native.Nat.{ℕ}
+use mathlib.Core.Path.{_≡_, refl, ap, _∙_}
+use mathlib.Core.List.{List, [], _∷_, _++_, map, append-nil}
+use mathlib.Core.Bool.{Bool, true, false, cond}
+use lib.Dec.{eqb}
+use borrow.Author.Tests.{eq-eqb}
+use Rattle.frame.specs.FrameTable.{FrameTable}
+use Rattle.entries.specs.Kind.{Kind}
+use Rattle.answers.specs.Outputs.{octets}
+use Rattle.frame.specs.Places.{upTo}
+use Rattle.form.specs.declared.Form.{Form}
+use Rattle.pouring.specs.Pouring.{inTime}
+use Rattle.numbers.specs.Place.{decided}
+use Rattle.session.specs.Session.{neverOpened, fresh, vacant, formRight, isOpen, refuse, groupBefore, received, offered, pourMade}
+use Rattle.session.specs.declared.Session.{Session}
+use Rattle.session.specs.declared.Taken.the-variants.{Accepted}
+use Rattle.answers.specs.declared.Refusal.the-variants.{AnotherSource, NotApplicable}
+use Rattle.holding.proofs.GroupLaws.{nothing-is}
+use Rattle.capture.specs.Capture.{Heard, packetsIn}
+use Rattle.capture.specs.Run.{captureKind, Step, andThen, captureForm, firstSession, offeredTo, takenOf, offering, pouredOf, pouring, isTwelve, stepOf}
+use Rattle.capture.specs.Run.{runOf, entriesRecorded, captureRecording}
+use Rattle.capture.proofs.RunLaws.{table-fits, table-erases}
+use Rattle.capture.proofs.Largest.{step-source}
+use Rattle.capture.proofs.RunLaws.{largest-is}
+use Rattle.capture.proofs.CaptureLaws.{good-means}
+use Rattle.claims.specs.Demand3.{Demand3, Sent, sentNumbers, Ready, offerOne, offerAll, AllAccepted}
+use Rattle.claims.specs.Sessions.{lostBefore}
+use Rattle.claims.specs.Captures.{heardOf, GroupIsRecorded, fromSource, FirstSourceAlone, OthersAreNotHeard, NoPacketGivesOpening}
+use Rattle.claims.specs.Captures.{NothingIsLarger, CaptureExactlyIf}
+use Rattle.claims.proofs.Demand3.{demand-3}
+use Rattle.claims.proofs.Sessions.{fresh-open}
+
+-- ---- another source leaves no trace
+other-step : (kind : Kind) (s : Session) (h : Heard) → eqb (h .source) (s .source) ≡ false → stepOf kind s h ≡ record { session = s; octets = [] }
+unfolding stepOf offering takenOf isTwelve offeredTo offered received refuse
+other-step kind s h e = rw e (go (isOpen (kind .table) s))
+  where
+    go :
+        (b : Bool) →
+        let o = cond b (refuse s AnotherSource) (refuse s NotApplicable) in
+        cond (isTwelve (o .answer)) (andThen (pouring (kind .table) s) (λ t. offering kind t h)) (takenOf kind s (o .session) (o .answer))
+        ≡ record { session = s; octets = [] }
+    go true = refl
+    go false = refl
+
+from-source : (kind : Kind) (s : Session) (x : ℕ) → s .source ≡ x → (hs : List Heard) → runOf kind s hs ≡ runOf kind s (fromSource x hs)
+unfolding runOf andThen
+from-source kind s x q [] = refl
+from-source kind s x q (h ∷ hs) = go (λ (t : Session) (e : t .source ≡ x). from-source kind t x e hs) (eqb (h .source) x) refl
+  where
+    go :
+        ((t : Session) → t .source ≡ x → runOf kind t hs ≡ runOf kind t (fromSource x hs)) →
+        (b : Bool) →
+        eqb (h .source) x ≡ b →
+        runOf kind s (h ∷ hs) ≡ runOf kind s (cond b (h ∷ fromSource x hs) (fromSource x hs))
+    go again true e = ap (λ (a : Step). record { session = a .session; octets = stepOf kind s h .octets ++ a .octets }) (again (stepOf kind s h .session) (step-source kind s h ∙ q))
+    go again false e =
+        let d : stepOf kind s h ≡ record { session = s; octets = [] } = other-step kind s h (ap (eqb (h .source)) q ∙ e) in
+        rw d (again s q)
+
+pub first-source-alone : FirstSourceAlone
+unfolding FirstSourceAlone entriesRecorded firstSession fresh vacant
+first-source-alone kind h hs =
+    let s = fresh (h .source) captureForm in
+    let e : eqb (h .source) (h .source) ≡ true = eq-eqb (h .source) (h .source) refl in
+    let f : fromSource (h .source) (h ∷ hs) ≡ h ∷ fromSource (h .source) hs = simp e in
+    ap (λ (a : Step). andThen a (pouring (kind .table)) .octets) (from-source kind s (h .source) refl (h ∷ hs) ∙ ap (runOf kind s) f)
+
+pub others-are-not-heard : OthersAreNotHeard
+unfolding OthersAreNotHeard FirstSourceAlone
+others-are-not-heard kind h hs e = first-source-alone kind h hs ∙ ap (λ (ks : List Heard). entriesRecorded kind (h ∷ ks)) e
+
+-- ---- no packet, and the most
+pub no-packet-gives-opening : NoPacketGivesOpening
+unfolding NoPacketGivesOpening captureRecording entriesRecorded packetsIn upTo runOf andThen firstSession pouring pouredOf pourMade isOpen neverOpened vacant
+no-packet-gives-opening kind c e = rw e (append-nil (kind .opening))
+
+pub nothing-is-larger : NothingIsLarger
+unfolding NothingIsLarger
+nothing-is-larger c g = largest-is captureKind table-fits table-erases c refl g
+
+-- ---- demand 3 through a capture
+-- a packet that is accepted, with nothing lost before it, is taken and no more
+taken-step : (kind : Kind) (s : Session) (h : Heard) → offeredTo (kind .table) s h .answer ≡ Accepted 0 → stepOf kind s h ≡ record { session = offeredTo (kind .table) s h .session; octets = [] }
+unfolding stepOf offering takenOf isTwelve
+taken-step kind s h e = rw e
+
+all-taken : (kind : Kind) {form : Form} (g : Sent (kind .table) form) (s : Session) (ns : List ℕ) → AllAccepted s g 0 ns →
+    runOf kind s (map (heardOf g) ns) ≡ record { session = offerAll s g ns; octets = [] }
+unfolding runOf andThen offerAll AllAccepted offeredTo
+all-taken kind g s [] x = refl
+all-taken kind g s (n ∷ ns) x = rw (taken-step kind s (heardOf g n) (x .0)) (all-taken kind g (offerOne s g n .session) ns (x .1))
+
+-- a session that takes the group's source is ready for it
+first-ready : {v : FrameTable} (g : Sent v captureForm) → Ready (fresh (g .source) captureForm) g
+unfolding fresh vacant captureForm formRight groupBefore decided
+first-ready {v} g = record { opened = fresh-open v (g .source) captureForm refl; for-source = refl; in-form = refl; vacant = nothing-is; reported = 0; would-begin = simp nothing-is }
+
+accepted-as : {v : FrameTable} {form : Form} (g : Sent v form) (s : Session) (m k : ℕ) (ns : List ℕ) → m ≡ k → AllAccepted s g m ns → AllAccepted s g k ns
+accepted-as g s m k ns e x = rw (← e) x
+
+pub group-is-recorded : GroupIsRecorded
+unfolding GroupIsRecorded Demand3 captureRecording entriesRecorded andThen firstSession pouring pouredOf fresh vacant
+group-is-recorded kind r g n ns h c e =
+    let s = fresh (g .source) captureForm in
+    let d = demand-3 (kind .table) r captureForm g s (first-ready g) n ns h in
+    let t = offerAll s g (n ∷ ns) in
+    let z : lostBefore s (sentNumbers g) ≡ 0 = simp nothing-is in
+    let x = accepted-as g s (lostBefore s (sentNumbers g)) 0 (n ∷ ns) z (d .accepted) in
+    let y = all-taken kind g s (n ∷ ns) x in
+    record {
+      frames = inTime (kind .table) (t .group);
+      behind-opening = rw (e, y, d .poured);
+      count = d .places .count;
+      original = d .places .original;
+      erased = d .places .erased;
+    }
+
+pub capture-exactly-if : CaptureExactlyIf
+unfolding CaptureExactlyIf
+capture-exactly-if c = good-means c

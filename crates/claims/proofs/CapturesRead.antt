@@ -1,0 +1,196 @@
+-- What a capture gives is a recording: every step of the run records entries, and leaves a session whose group is a box or none. Assumes nothing.
+use Prim.Native.Nat.{ℕ, zero, suc, _+_, _≤_, _<_}
+use mathlib.Core.Bool.{Bool, true, false, cond}
+use mathlib.Core.Path.{_≡_, refl, sym, ap, ap₂, _∙_}
+use mathlib.Core.List.{List, [], _∷_, _++_}
+use native.Mathlib.Omega.{arith}
+use lib.Dec.{T, eqb, eqb→eq}
+use lib.ListN.{length, replicate}
+use lib.Seq.{drop-append-seam}
+use Rattle.octets.proofs.Logic.{apart, both-hold, hold-true}
+use Rattle.frame.specs.FrameTable.{FrameTable, Frame, Listed, AllListed, single, known, size, erasure}
+use Rattle.frame.specs.Places.{upTo, noFrame}
+use Rattle.frame.proofs.FrameTableLaws.{erasure-listed}
+use Rattle.frame.proofs.PlacesLaws.{upTo-at, every-at, every-append, every-upTo, length-upTo}
+use Rattle.payload.proofs.Readings.{IsPacket, read-is}
+use Rattle.entries.specs.Kind.{Kind, listsErasure}
+use Rattle.entries.specs.Entries.{frames, allowed, entriesOf}
+use Rattle.entries.proofs.Written.{AllOk, entries-written}
+use Rattle.recording.specs.Recording.{recordingRead}
+use Rattle.entries.specs.declared.Rule.the-variants.{Any}
+use Rattle.recording.proofs.Opening.{begins-self}
+use Rattle.holding.specs.Group.{isNothing, heldAt, bundleAt, withPacket, begun, holds}
+use Rattle.bundle.specs.LaidOut.{laid}
+use Rattle.holding.specs.declared.Holding.{Holding}
+use Rattle.holding.proofs.GroupLaws.{sound-has, holds-sound, sound-something, nothing-is}
+use Rattle.pouring.specs.Pouring.{frameIn, row, rows, inTime, poured}
+use Rattle.pouring.proofs.PouringLaws.{entries-append}
+use Rattle.knowledge.specs.Knowledge.{Box, frameOf}
+use Rattle.knowledge.proofs.Cells.{packet-sized}
+use Rattle.knowledge.proofs.PacketLaws.{right-listed, frame-in, erased-frame}
+use Rattle.knowledge.proofs.JoinLaws.{box-sound, box-blank, right-held}
+use Rattle.knowledge.proofs.PutLaws.{put-box, begun-keeps}
+use Rattle.session.specs.Session.{neverOpened, fresh, vacant, isOpen, refuse, accept, withGroup, begins, arrival, offered, pourMade}
+use Rattle.session.specs.Session.{ended}
+use Rattle.session.specs.declared.Session.{Session}
+use Rattle.session.specs.declared.Offered.{Offered}
+use Rattle.session.proofs.Ends.{Placed, no, again, put, first, next, Ends, refuses, places, offer-ends}
+use Rattle.capture.specs.Capture.{Heard, packetsIn}
+use Rattle.capture.specs.Run.{Step, andThen, firstSession, offeredTo, takenOf, offering, pouredOf, pouring, isTwelve, stepOf, runOf}
+use Rattle.capture.specs.Run.{entriesRecorded, captureRecording}
+use Rattle.capture.proofs.Largest.{madeIf}
+use Rattle.claims.specs.Joinings.{HasRoom}
+use Rattle.claims.specs.Captures.{GivesARecording}
+
+-- ---- the frames of a box are as the table has them
+module _ (v : FrameTable) (r : HasRoom v) (h : Holding) (x : Box v h) where
+  frame-listed : (n k : ℕ) → n < 8 → k < h .b → Listed v (frameIn v (h .marks) (h .room) n k)
+  frame-listed n k p q = go (heldAt h n) refl
+    where
+      few : k < 10
+      few = omega (arith, q, box-sound v h x .few)
+
+      is : frameIn v (h .marks) (h .room) n k ≡ frameOf v (bundleAt h n) k
+      is = frame-in v (r .short) h n k few
+
+      go : (b : Bool) → heldAt h n ≡ b → Listed v (frameIn v (h .marks) (h .room) n k)
+      go true e =
+          let a = right-listed v (r .short) (r .erasing) (h .b) (box-sound v h x .few) (bundleAt h n) (packet-sized h n (x .shaped) p) (right-held v h x n p e .1) in
+          let l = every-at (Listed v) (upTo (frameOf v (bundleAt h n)) (h .b)) k a (omega (arith, q, length-upTo (frameOf v (bundleAt h n)) (h .b))) in
+          rw (is, ← upTo-at (frameOf v (bundleAt h n)) (h .b) k noFrame q) l
+      go false e =
+          let f : frameIn v (h .marks) (h .room) n k ≡ record { type = erasure; body = [] } = is ∙ ap (λ p. frameOf v p k) (box-blank v h x n p e) ∙ erased-frame v (r .erasing) k few in
+          let z = erasure-listed v (r .erasing) in
+          let l : Listed v (record { type = erasure; body = [] }) = record { type-known = z .0; octets = sym (z .1) } in
+          rw f l
+
+  rows-listed : (m b : ℕ) → m ≤ 8 → b ≤ h .b → AllListed v (rows v (h .marks) (h .room) m b)
+  unfolding rows row
+  rows-listed m zero p q = tt
+  rows-listed m (suc b) p q =
+      every-append (Listed v) (rows v (h .marks) (h .room) m b) (row v (h .marks) (h .room) b m) (rows-listed m b p (omega arith))
+      (every-upTo (Listed v) (λ n. frameIn v (h .marks) (h .room) n b) m (λ n i. frame-listed n b (omega arith) (omega arith)))
+
+-- ---- octets that are entries
+record IsEntries (v : FrameTable) (w : List ℕ) : Type 0 where
+  fs : List Frame
+  listed : AllListed v fs
+  is : w ≡ entriesOf fs
+
+entries-both : (v : FrameTable) (w u : List ℕ) → IsEntries v w → IsEntries v u → IsEntries v (w ++ u)
+entries-both v w u x y =
+    record { fs = x .fs ++ y .fs; listed = every-append (Listed v) (x .fs) (y .fs) (x .listed) (y .listed); is = ap₂ _++_ (x .is) (y .is) ∙ sym (entries-append (x .fs) (y .fs)) }
+
+entries-none : (v : FrameTable) → IsEntries v []
+entries-none v = record { fs = []; listed = tt; is = refl }
+
+entries-lost : (kind : Kind) → T (listsErasure kind) → (n : ℕ) → IsEntries (kind .table) (replicate n (kind .erasure))
+entries-lost kind r zero = entries-none (kind .table)
+entries-lost kind r (suc n) =
+    let i = entries-lost kind r n in
+    let z = both-hold (known (kind .table) (kind .erasure)) (eqb (size (kind .table) (kind .erasure)) 0) r in
+    record {
+      fs = record { type = kind .erasure; body = [] } ∷ i .fs;
+      listed = (record { type-known = hold-true _ (z .0); octets = sym (eqb→eq (size (kind .table) (kind .erasure)) 0 (z .1)) }, i .listed);
+      is = ap (λ (l : List ℕ). kind .erasure ∷ l) (i .is);
+    }
+
+-- ---- a session whose group is a box, or none
+data Fine (v : FrameTable) (s : Session) : Type 0 where
+  none : isNothing (s .group) ≡ true → Fine v s
+  boxed : Box v (s .group) → Fine v s
+
+record Good (v : FrameTable) (a : Step) : Type 0 where
+  fine : Fine v (a .session)
+  entries : IsEntries v (a .octets)
+
+module _ (kind : Kind) (r : HasRoom (kind .table)) (u : T (single (kind .table) (kind .table))) (lists : T (listsErasure kind)) where
+  -- a packet put into a box, and into a group just begun
+  put-fine : (s : Session) (q t l n : ℕ) (fs : List Frame) → IsPacket (kind .table) l n fs → Fine (kind .table) s → isNothing (s .group) ≡ false → l ≡ s .group .l → length fs ≡ s .group .b
+      → Box (kind .table) (withPacket (s .group) n (laid fs))
+  put-fine s q t l n fs i (none z) e a b = let y : true ≡ false = sym z ∙ e in apart (cc)
+  put-fine s q t l n fs i (boxed x) e a b =
+      put-box (kind .table) (r .short) (r .erasing) (s .group) (record { shaped = x .shaped; rule = holds-sound (kind .table) (s .group) (x .some) .0 }) n (omega (arith, i .index-in)) fs b (i .listed)
+
+  begun-fine : (source q t l n : ℕ) (fs : List Frame) → IsPacket (kind .table) l n fs → Box (kind .table) (withPacket (begun source q t l (length fs)) n (laid fs))
+  unfolding begun
+  begun-fine source q t l n fs i =
+      put-box (kind .table) (r .short) (r .erasing) (begun source q t l (length fs))
+      (begun-keeps source q t l (length fs) (kind .table) (i .length-small) (i .some) (i .few)) n (i .index-in) fs refl (i .listed)
+
+  placed-good : (s : Session) (q t l n : ℕ) (fs : List Frame) → IsPacket (kind .table) l n fs → Fine (kind .table) s → (o : Offered) → Placed s (arrival q t l n fs) o
+      → Good (kind .table) (takenOf kind s (o .session) (o .answer))
+  unfolding takenOf refuse accept begins arrival withGroup
+  placed-good s q t l n fs i f o (no x e) = rw e (record { fine = f; entries = entries-none (kind .table) })
+  placed-good s q t l n fs i f o (again a e) = rw e (record { fine = f; entries = entries-none (kind .table) })
+  placed-good s q t l n fs i f o (put a b c e) = rw e (record { fine = boxed (put-fine s q t l n fs i f a b c); entries = entries-none (kind .table) })
+  placed-good s q t l n fs i f o (first a b e) = rw e (record { fine = boxed (begun-fine (s .source) _ _ l n fs i); entries = entries-none (kind .table) })
+  placed-good s q t l n fs i f o (next a b lost c d e) = rw e (record { fine = boxed (begun-fine (s .source) _ _ l n fs i); entries = entries-lost kind lists lost })
+
+  offer-good : (s : Session) (h : Heard) → Fine (kind .table) s → Good (kind .table) (offering kind s h)
+  unfolding offering offeredTo takenOf refuse
+  offer-good s h f = go (offered (kind .table) s (h .source) (h .sequence) (h .timestamp) (h .payload)) (offer-ends (kind .table) s (h .source) (h .sequence) (h .timestamp) (h .payload))
+    where
+      go : (o : Offered) → Ends (kind .table) s (h .source) (h .sequence) (h .timestamp) (h .payload) o → Good (kind .table) (takenOf kind s (o .session) (o .answer))
+      go o (refuses x e) = rw e (record { fine = f; entries = entries-none (kind .table) })
+      go o (places op q l n d fs e x) = placed-good s (h .sequence) (h .timestamp) l n fs (read-is (kind .table) u (s .form) (h .payload) l n d fs e) f o x
+
+  pour-good : (s : Session) → Fine (kind .table) s → Good (kind .table) (pouring (kind .table) s)
+  unfolding pouring pouredOf pourMade poured ended
+  pour-good s f = go (isOpen (kind .table) s) (holds (kind .table) (s .group)) refl f
+    where
+      go : (o b : Bool) → holds (kind .table) (s .group) ≡ b → Fine (kind .table) s → Good (kind .table) (pouredOf s (madeIf (kind .table) s o b))
+      go false b e f = record { fine = f; entries = entries-none (kind .table) }
+      go true false e f = record { fine = f; entries = entries-none (kind .table) }
+      go true true e (none z) =
+          let y : true ≡ false = sym z ∙ sound-something (kind .table) (s .group) (sound-has (kind .table) (s .group) (holds-sound (kind .table) (s .group) e .0)) in
+          apart (cc)
+      go true true e (boxed x) =
+          let d = box-sound (kind .table) (s .group) x in
+          let l = rows-listed (kind .table) r (s .group) x (s .group .l + 1) (s .group .b) (omega (arith, d .low)) (omega arith) in
+          record { fine = none nothing-is; entries = record { fs = inTime (kind .table) (s .group); listed = l; is = refl } }
+
+  then-good : (a : Step) (f : Session → Step) → Good (kind .table) a → ((t : Session) → Fine (kind .table) t → Good (kind .table) (f t)) → Good (kind .table) (andThen a f)
+  unfolding andThen
+  then-good a f x y =
+      let z = y (a .session) (x .fine) in
+      record { fine = z .fine; entries = entries-both (kind .table) (a .octets) (f (a .session) .octets) (x .entries) (z .entries) }
+
+  step-good : (s : Session) (h : Heard) → Fine (kind .table) s → Good (kind .table) (stepOf kind s h)
+  unfolding stepOf
+  step-good s h f = go (isTwelve (offeredTo (kind .table) s h .answer))
+    where
+      go : (b : Bool) → Good (kind .table) (cond b (andThen (pouring (kind .table) s) (λ t. offering kind t h)) (offering kind s h))
+      go true = then-good (pouring (kind .table) s) (λ t. offering kind t h) (pour-good s f) (λ t x. offer-good t h x)
+      go false = offer-good s h f
+
+  run-good : (s : Session) (hs : List Heard) → Fine (kind .table) s → Good (kind .table) (runOf kind s hs)
+  unfolding runOf
+  run-good s [] f = record { fine = f; entries = entries-none (kind .table) }
+  run-good s (h ∷ hs) f = then-good (stepOf kind s h) (λ t. runOf kind t hs) (step-good s h f) (λ t x. run-good t hs x)
+
+  first-fine : (hs : List Heard) → Fine (kind .table) (firstSession hs)
+  unfolding firstSession neverOpened fresh vacant
+  first-fine [] = none nothing-is
+  first-fine (h ∷ hs) = none nothing-is
+
+-- ---- entries behind an opening are read as their frames
+any-ok : (v : FrameTable) (fs : List Frame) → AllOk (allowed v Any) fs
+unfolding allowed
+any-ok v [] = tt
+any-ok v (f ∷ fs) = (refl, any-ok v fs)
+
+pub gives-a-recording : GivesARecording
+unfolding GivesARecording captureRecording entriesRecorded recordingRead
+gives-a-recording kind r u h lists c =
+    let hs = packetsIn c in
+    let g =
+    then-good kind r u lists (runOf kind (firstSession hs) hs) (pouring (kind .table)) (run-good kind r u lists (firstSession hs) hs (first-fine kind r u lists hs))
+    (λ t x. pour-good kind r u lists t x) in
+    let x = g .entries in
+    let fs = x .fs in
+    record {
+      frames = fs;
+      read = rw (x .is, begins-self kind (entriesOf fs), drop-append-seam (kind .opening) (entriesOf fs))
+          (entries-written kind h (allowed (kind .table) Any) fs (x .listed) (any-ok (kind .table) fs));
+    }

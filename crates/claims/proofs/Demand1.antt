@@ -1,0 +1,162 @@
+-- Demand 1 of every C call, read off its contract. Assumes nothing.
+use Prim.Native.Nat.{ℕ}
+use mathlib.Core.Bool.{Bool, true, false, cond}
+use mathlib.Core.Path.{_≡_, refl, ap, ap₂, _∙_}
+use mathlib.Core.List.{List, [], _++_}
+use lib.Dec.{leb}
+use lib.ListN.{length, drop}
+use Rattle.octets.proofs.Logic.{apart}
+use Rattle.entries.specs.Kind.{Kind}
+use Rattle.answers.specs.Answers.{numberOf}
+use Rattle.answers.specs.Outputs.{Made, octets, refusedOutput, writtenOf, outAfter}
+use Rattle.answers.specs.declared.Refusal.{Refusal}
+use Rattle.answers.specs.declared.Refusal.the-variants.{NoRoom}
+use Rattle.frame.specs.declared.Located.{Located}
+use Rattle.frame.specs.declared.Located.the-variants as located
+use Rattle.answers.specs.declared.Written.{Written}
+use Rattle.answers.specs.declared.Written.the-variants as written
+use Rattle.payload.specs.declared.Contents.{Contents}
+use Rattle.payload.specs.declared.Contents.the-variants as contents
+use Rattle.entries.specs.declared.Counted.{Counted}
+use Rattle.entries.specs.declared.Counted.the-variants as counted
+use Rattle.answers.specs.declared.Answer.{Answer}
+use Rattle.answers.specs.declared.Answer.the-variants as answer
+use Rattle.session.specs.declared.Taken.{Taken}
+use Rattle.session.specs.declared.Taken.the-variants as taken
+use Rattle.capture.specs.Capture.{good}
+use Rattle.capture.specs.Run.{recordAnswer, recordOutput, captureRecording}
+use Rattle.capture.specs.declared.Outcome.the-variants as outcome
+use Rattle.lending.specs.Calls.{layIf, layTaken, layWritten, openAnswer, openOctets, offerOctets, pourOctets, copyOctets}
+use Rattle.lending.specs.Calls.{endOctets, joinOctets}
+use Rattle.landing.specs.Host.{packetTold, packetAfter, placeTold, placeAfter, countTold, countAfter, writeTold, writtenAfter, withOutput}
+use Rattle.landing.specs.Host.{writeAfter, outcomeAfter, recordAfter, answerNumber, takenAfter, openNamed, openedNamed}
+use Rattle.landing.specs.declared.Named.{Named}
+use Rattle.landing.specs.declared.Named.the-variants as named
+use Rattle.claims.specs.Calls.Lent.{LentLNBD, LentKindStartSize, LentCount, LentOutWritten, LentSession, LentSessionLost}
+use Rattle.claims.specs.Calls.Lent.{LentSessionOutWritten}
+use Rattle.claims.specs.Demand1.{Numbered, done, refusal, NumberedOrBad, numbered, bad, Refuses, Demand1}
+use Rattle.claims.proofs.Seen.{out-lent, session-lent, holding-lent, answer-with, packet-seen, place-seen, count-seen, write-seen}
+use Rattle.claims.proofs.Seen.{offer-seen}
+
+-- ---- the two ways to answer, over all that is seen: 0; or the refusal's number, and what was lent as it was
+did : {X : Type 0} {x : ℕ} {before after made : X} → _≡_ {A = ℕ × X} (x, after) (0, made) → Refuses Numbered x before after
+did e = record { number = done (ap (λ w. w .0) e); kept = λ h. absurd (h (ap (λ w. w .0) e)) }
+
+refused-by : {X : Type 0} (r : Refusal) {x : ℕ} {before after : X} → _≡_ {A = ℕ × X} (x, after) (numberOf r, before) → Refuses Numbered x before after
+refused-by r e = record { number = refusal r (ap (λ w. w .0) e); kept = λ h. ap (λ w. w .1) e }
+
+-- ---- what a host is told of a payload, of a frame, and of a count
+packet-refuses : (c : Contents) {x : ℕ} {b a : LentLNBD} →
+    packetTold x (a .l) (a .n) (a .b) (a .d) ≡ packetAfter c (b .l) (b .n) (b .b) (b .d) → Refuses Numbered x b a
+unfolding packetAfter
+packet-refuses (contents.Packet l n b d) p = did (ap packet-seen p)
+packet-refuses (contents.Refused r) p = refused-by r (ap packet-seen p)
+
+place-refuses : (c : Located) {x : ℕ} {b a : LentKindStartSize} →
+    placeTold x (a .kind) (a .start) (a .size) ≡ placeAfter c (b .kind) (b .start) (b .size) → Refuses Numbered x b a
+unfolding placeAfter
+place-refuses (located.At t s z) p = did (ap place-seen p)
+place-refuses (located.Refused r) p = refused-by r (ap place-seen p)
+
+count-refuses : (c : Counted) {x : ℕ} {b a : LentCount} → countTold x (a .count) ≡ countAfter c (b .count) → Refuses Numbered x b a
+unfolding countAfter
+count-refuses (counted.Frames n) p = did (ap count-seen p)
+count-refuses (counted.Refused r) p = refused-by r (ap count-seen p)
+
+-- ---- of a call that writes: an answer, with the output that goes with it
+written-refuses : (w : Written) {x : ℕ} {b a : LentOutWritten} (out : List ℕ) → ((r : Refusal) → w ≡ written.Refused r → out ≡ b .out) →
+    writeTold x (a .written) (a .out) ≡ withOutput (writtenAfter w (b .written)) out → Refuses Numbered x b a
+unfolding writtenAfter
+written-refuses (written.Octets m) out k p = did (ap write-seen p)
+written-refuses (written.Refused r) {b = b} out k p = refused-by r (ap write-seen (p ∙ ap (writeTold (numberOf r) (b .written)) (k r refl)))
+
+-- a refused writer leaves its output
+kept-output : (made : Made) (out : List ℕ) (r : Refusal) → writtenOf made out ≡ written.Refused r → outAfter made out ≡ out
+unfolding writtenOf outAfter
+kept-output (refusedOutput s) out r e = refl
+kept-output (octets w) out r e = go (leb (length w) (length out)) e
+  where
+    go : (b : Bool) → cond b (written.Octets (length w)) (written.Refused NoRoom) ≡ written.Refused r → cond b (w ++ drop (length w) out) out ≡ out
+    go true e = apart (cc)
+    go false e = refl
+
+write-refuses : (made : Made) {x : ℕ} {b a : LentOutWritten} → writeTold x (a .written) (a .out) ≡ writeAfter made (b .written) (b .out) →
+    Refuses Numbered x b a
+unfolding writeAfter
+write-refuses made {b = b} p = written-refuses (writtenOf made (b .out)) (outAfter made (b .out)) (kept-output made (b .out)) p
+
+-- ---- of a capture, which may be bad
+capture-refuses : (good : Bool) (made : Made) {x : ℕ} {b a : LentOutWritten} →
+    writeTold x (a .written) (a .out) ≡ withOutput
+    (outcomeAfter (cond good (outcome.Recorded (writtenOf made (b .out))) outcome.BadCapture) (b .written))
+    (cond good (outAfter made (b .out)) (b .out)) →
+    Refuses NumberedOrBad x b a
+unfolding outcomeAfter
+capture-refuses true made {b = b} p =
+    let i = written-refuses (writtenOf made (b .out)) (outAfter made (b .out)) (kept-output made (b .out)) p in
+    record { number = numbered (i .number); kept = i .kept }
+capture-refuses false made p = record { number = bad (ap (λ w. write-seen w .0) p); kept = λ h. ap (λ w. write-seen w .1) p }
+
+record-refuses : (kind : Kind) (c : List ℕ) {x : ℕ} {b a : LentOutWritten} →
+    writeTold x (a .written) (a .out) ≡ recordAfter kind c (b .written) (b .out) → Refuses NumberedOrBad x b a
+unfolding recordAfter recordAnswer recordOutput
+record-refuses kind c p = capture-refuses (good c) (octets (captureRecording kind c)) p
+
+-- ---- of sessions and holdings in lent octets
+answer-refuses : {X : Type 0} (lent : List ℕ → X) (y : Answer) {x : ℕ} (b a w : List ℕ) → (x ≡ answerNumber y) × (a ≡ layIf y b w) →
+    Refuses Numbered x (lent b) (lent a)
+unfolding answerNumber layIf
+answer-refuses lent answer.Done b a w p = did (ap₂ (answer-with lent) (p .0) (p .1))
+answer-refuses lent (answer.Refused r) b a w p = refused-by r (ap₂ (answer-with lent) (p .0) (p .1))
+
+open-refuses : (f : Named) (source : ℕ) {x : ℕ} {b a : LentSession} →
+    (x ≡ answerNumber (openNamed f source (b .session))) × (a .session ≡ openedNamed f source (b .session)) → Refuses Numbered x b a
+unfolding openNamed openedNamed openOctets layIf
+open-refuses (named.Agreed f) source {b = b} p = answer-refuses session-lent (openAnswer (b .session) source f) _ _ _ p
+open-refuses (named.Refused r) source p = answer-refuses session-lent (answer.Refused r) _ _ [] p
+
+offer-refuses : (y : Taken) {x : ℕ} {b a : LentSessionLost} (w : List ℕ) →
+    (countTold x (a .lost) ≡ takenAfter y (b .lost)) × (a .session ≡ layTaken y (b .session) w) → Refuses Numbered x b a
+unfolding takenAfter layTaken
+offer-refuses (taken.Accepted m) w p = did (ap₂ offer-seen (p .0) (p .1))
+offer-refuses (taken.Refused r) w p = refused-by r (ap₂ offer-seen (p .0) (p .1))
+
+-- a refused pouring leaves the session
+kept-session : (y : Written) {x n : ℕ} {out : List ℕ} (n₀ : ℕ) (o b a w : List ℕ) → writeTold x n out ≡ withOutput (writtenAfter y n₀) o →
+    a ≡ layWritten y b w → (x ≡ 0 → ⊥) → a ≡ b
+unfolding writtenAfter layWritten
+kept-session (written.Octets m) n₀ o b a w e k h = absurd (h (ap (λ t. write-seen t .0) e))
+kept-session (written.Refused r) n₀ o b a w e k h = k
+
+pour-refuses : (made : Made) {x : ℕ} {b a : LentSessionOutWritten} (w : List ℕ) →
+    (writeTold x (a .written) (a .out) ≡ writeAfter made (b .written) (b .out)) × (a .session ≡ layWritten (writtenOf made (b .out)) (b .session) w) →
+    Refuses Numbered x b a
+unfolding writeAfter
+pour-refuses made {b = b} w p =
+    let i = write-refuses made (p .0) in
+    record {
+      number = i .number;
+      kept = λ h. ap₂ (λ (o : LentOutWritten) (s : List ℕ). record { session = s; out = o .out; written = o .written }) (i .kept h)
+          (kept-session (writtenOf made (b .out)) (b .written) (outAfter made (b .out)) _ _ w (p .0) (p .1) h);
+    }
+
+-- ---- every C call
+pub demand-1 : Demand1
+unfolding offerOctets pourOctets copyOctets endOctets joinOctets
+demand-1 = record {
+  lvPayloadRead = record { so = packet-refuses _ };
+  lvPayloadFrame = record { so = place-refuses _ };
+  lvRecordingRead = record { so = count-refuses _ };
+  lvRecordingFrame = record { so = place-refuses _ };
+  lvRecordingWrite = record { so = write-refuses _ };
+  lvPacketWrite = record { so = write-refuses _ };
+  lvPacketWriteHeaderFree = record { so = write-refuses _ };
+  lvCaptureRecord = record { so = record-refuses _ _ };
+  lvSessionOpen = record { so = open-refuses _ _ };
+  lvSessionOffer = record { so = offer-refuses _ _ };
+  lvSessionPour = record { so = pour-refuses _ _ };
+  lvSessionCopy = record { so = answer-refuses holding-lent _ _ _ _ };
+  lvSessionEnd = record { so = answer-refuses session-lent _ _ _ _ };
+  lvHoldingJoin = record { so = answer-refuses out-lent _ _ _ _ };
+  lvHoldingPour = record { so = write-refuses _ };
+}

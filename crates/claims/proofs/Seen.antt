@@ -1,0 +1,62 @@
+-- What is seen of an outcome, the answer and what was lent by its names, from what the contracts of the calls tell of it. Assumes nothing.
+use Prim.Native.Nat.{ℕ}
+use mathlib.Core.List.{List}
+use denote.Ref.{RefT, now, ptr}
+use Rattle.answers.specs.declared.Written.{Written}
+use Rattle.session.specs.declared.Poured.{Poured}
+use Rattle.session.specs.declared.Session.{Session}
+use Rattle.landing.specs.Host.{PacketTold, packetTold, PlaceTold, placeTold, CountTold, countTold, WriteTold, writeTold}
+use Rattle.claims.specs.Calls.Lent.{LentDst, LentOut, LentSession, LentHolding, LentSessionOut, LentLNBD, LentKindStartSize}
+use Rattle.claims.specs.Calls.Lent.{LentCount, LentOutWritten, LentSessionLost, LentSessionOutWritten}
+
+-- ---- octets lent under one name
+abbrev pub dst-lent : List ℕ → LentDst
+dst-lent o = record { dst = o }
+
+abbrev pub out-lent : List ℕ → LentOut
+out-lent o = record { out = o }
+
+abbrev pub session-lent : List ℕ → LentSession
+session-lent o = record { session = o }
+
+abbrev pub holding-lent : List ℕ → LentHolding
+holding-lent o = record { holding = o }
+
+-- ---- an answer alone, a reference alone, octets alone, and an answer with octets
+abbrev pub alone : {A : Type 0} → A → A × Unit {0}
+alone x = (x, tt)
+
+abbrev pub reference : RefT (List ℕ) → (List ℕ × (ℕ × ℕ)) × Unit {0}
+reference x = ((now x, ptr x), tt)
+
+abbrev pub only : {X : Type 0} → (List ℕ → X) → List ℕ → Unit {0} × X
+only lent o = (tt, lent o)
+
+abbrev pub answer-with : {A X : Type 0} → (List ℕ → X) → A → List ℕ → A × X
+answer-with lent x o = (x, lent o)
+
+-- ---- a pouring: the session is in the answer, or lent
+abbrev pub poured : Written → List ℕ → Session → Poured × LentOut
+poured x out session = (record { answer = x; session = session }, record { out = out })
+
+abbrev pub lent-poured : Written → List ℕ → List ℕ → Written × LentSessionOut
+lent-poured x out session = (x, record { session = session; out = out })
+
+-- ---- what a host is told, and the session beside it
+abbrev pub packet-seen : PacketTold → ℕ × LentLNBD
+packet-seen (packetTold x l n b d) = (x, record { l = l; n = n; b = b; d = d })
+
+abbrev pub place-seen : PlaceTold → ℕ × LentKindStartSize
+place-seen (placeTold x t s z) = (x, record { kind = t; start = s; size = z })
+
+abbrev pub count-seen : CountTold → ℕ × LentCount
+count-seen (countTold x n) = (x, record { count = n })
+
+abbrev pub write-seen : WriteTold → ℕ × LentOutWritten
+write-seen (writeTold x n out) = (x, record { out = out; written = n })
+
+abbrev pub offer-seen : CountTold → List ℕ → ℕ × LentSessionLost
+offer-seen (countTold x n) session = (x, record { session = session; lost = n })
+
+abbrev pub pour-seen : WriteTold → List ℕ → ℕ × LentSessionOutWritten
+pour-seen (writeTold x n out) session = (x, record { session = session; out = out; written = n })

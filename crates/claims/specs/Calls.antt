@@ -1,0 +1,19 @@
+-- Made by tools/calls --write from the sources: a page for each crate that has public calls, and what is lent to them.
+pub mod Lent
+pub mod Answers
+pub mod Bundle
+pub mod Capture
+pub mod Entries
+pub mod Form
+pub mod Frame
+pub mod Holding
+pub mod Joining
+pub mod Landing
+pub mod Lending
+pub mod Numbers
+pub mod Octets
+pub mod Packet
+pub mod Payload
+pub mod Pouring
+pub mod Recording
+pub mod Session

@@ -1,0 +1,18 @@
+-- Made by tools/calls --write from the sources: the public calls of crates/answers.
+use Prim.Native.Nat.{ℕ}
+use Rattle.answers.proofs as contracts
+use Rattle.claims.specs.Call.{Call}
+
+-- Refusal::number(self) -> u8
+abbrev pub refusalNumber : Call
+refusalNumber = record {
+  lifetimes = 0;
+  parameters = contracts.Refusal.number.Kinds.ps;
+  result = contracts.Refusal.number.Kinds.r;
+  allows = contracts.Refusal.number.Reads.Post;
+  Answer = ℕ;
+  answer = λ κs x. x;
+  Lent = Unit {0};
+  lent = λ κs a. tt;
+  left = λ κs s. tt;
+}

@@ -1,0 +1,132 @@
+-- Made by tools/calls --write from the sources: the public calls of crates/holding.
+use mathlib.Core.Bool.{Bool}
+use Rattle.holding.specs.declared.Holding.{Holding}
+use Rattle.numbers.specs.declared.GroupNumbers.{GroupNumbers}
+use Rattle.holding.proofs as contracts
+use Rattle.claims.specs.Call.{Call}
+
+-- begin(source: u32, sequence: u16, timestamp: u32, l: u8, b: u8) -> Holding
+abbrev pub begin : Call
+begin = record {
+  lifetimes = 0;
+  parameters = contracts.begin.Kinds.ps;
+  result = contracts.begin.Kinds.r;
+  allows = contracts.begin.Reads.Post;
+  Answer = Holding;
+  answer = λ κs x. x;
+  Lent = Unit {0};
+  lent = λ κs a. tt;
+  left = λ κs s. tt;
+}
+
+-- numbers_of(group: Holding) -> GroupNumbers
+abbrev pub numbersOf : Call
+numbersOf = record {
+  lifetimes = 0;
+  parameters = contracts.numbers_of.Kinds.ps;
+  result = contracts.numbers_of.Kinds.r;
+  allows = contracts.numbers_of.Reads.Post;
+  Answer = GroupNumbers;
+  answer = λ κs x. x;
+  Lent = Unit {0};
+  lent = λ κs a. tt;
+  left = λ κs s. tt;
+}
+
+-- nothing() -> Holding
+abbrev pub nothing : Call
+nothing = record {
+  lifetimes = 0;
+  parameters = contracts.nothing.Kinds.ps;
+  result = contracts.nothing.Kinds.r;
+  allows = contracts.nothing.Reads.Post;
+  Answer = Holding;
+  answer = λ κs x. x;
+  Lent = Unit {0};
+  lent = λ κs a. tt;
+  left = λ κs s. tt;
+}
+
+-- is_nothing(h: Holding) -> bool
+abbrev pub isNothing : Call
+isNothing = record {
+  lifetimes = 0;
+  parameters = contracts.is_nothing.Kinds.ps;
+  result = contracts.is_nothing.Kinds.r;
+  allows = contracts.is_nothing.Reads.Post;
+  Answer = Bool;
+  answer = λ κs x. x;
+  Lent = Unit {0};
+  lent = λ κs a. tt;
+  left = λ κs s. tt;
+}
+
+-- with_packet(h: Holding, n: usize, p: Bundle) -> Holding
+abbrev pub withPacket : Call
+withPacket = record {
+  lifetimes = 0;
+  parameters = contracts.with_packet.Kinds.ps;
+  result = contracts.with_packet.Kinds.r;
+  allows = contracts.with_packet.Reads.Post;
+  Answer = Holding;
+  answer = λ κs x. x;
+  Lent = Unit {0};
+  lent = λ κs a. tt;
+  left = λ κs s. tt;
+}
+
+-- is_held(h: Holding, n: usize) -> bool
+abbrev pub isHeld : Call
+isHeld = record {
+  lifetimes = 0;
+  parameters = contracts.is_held.Kinds.ps;
+  result = contracts.is_held.Kinds.r;
+  allows = contracts.is_held.Reads.Post;
+  Answer = Bool;
+  answer = λ κs x. x;
+  Lent = Unit {0};
+  lent = λ κs a. tt;
+  left = λ κs s. tt;
+}
+
+-- same_packet(h: Holding, n: usize, p: Bundle) -> bool
+abbrev pub samePacket : Call
+samePacket = record {
+  lifetimes = 0;
+  parameters = contracts.same_packet.Kinds.ps;
+  result = contracts.same_packet.Kinds.r;
+  allows = contracts.same_packet.Reads.Post;
+  Answer = Bool;
+  answer = λ κs x. x;
+  Lent = Unit {0};
+  lent = λ κs a. tt;
+  left = λ κs s. tt;
+}
+
+-- is_sound(h: Holding) -> bool
+abbrev pub isSound : Call
+isSound = record {
+  lifetimes = 0;
+  parameters = contracts.is_sound.Kinds.ps;
+  result = contracts.is_sound.Kinds.r;
+  allows = contracts.is_sound.Reads.Post;
+  Answer = Bool;
+  answer = λ κs x. x;
+  Lent = Unit {0};
+  lent = λ κs a. tt;
+  left = λ κs s. tt;
+}
+
+-- holds_packet(h: Holding) -> bool
+abbrev pub holdsPacket : Call
+holdsPacket = record {
+  lifetimes = 0;
+  parameters = contracts.holds_packet.Kinds.ps;
+  result = contracts.holds_packet.Kinds.r;
+  allows = contracts.holds_packet.Reads.Post;
+  Answer = Bool;
+  answer = λ κs x. x;
+  Lent = Unit {0};
+  lent = λ κs a. tt;
+  left = λ κs s. tt;
+}

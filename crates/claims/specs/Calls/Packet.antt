@@ -1,0 +1,34 @@
+-- Made by tools/calls --write from the sources: the public calls of crates/packet.
+use denote.Ref.{now}
+use Rattle.answers.specs.declared.Written.{Written}
+use Rattle.packet.proofs as contracts
+use Rattle.claims.specs.Call.{Call}
+use Rattle.claims.specs.Calls.Lent.{LentOut}
+
+-- write(form: Form, l: u8, n: u8, b: u8, d: u8, entries: &[u8], out: &mut [u8]) -> Written
+abbrev pub write : Call
+write = record {
+  lifetimes = 2;
+  parameters = contracts.write.Kinds.ps;
+  result = contracts.write.Kinds.r;
+  allows = contracts.write.Reads.Post;
+  Answer = Written;
+  answer = λ κs x. x;
+  Lent = LentOut;
+  lent = λ κs a. record { out = now (a .1 .1 .1 .1 .1 .1 .0) };
+  left = λ κs s. record { out = now (s .1 .1 .1 .1 .1 .1 .0) };
+}
+
+-- write_header_free(form: Form, entries: &[u8], out: &mut [u8]) -> Written
+abbrev pub writeHeaderFree : Call
+writeHeaderFree = record {
+  lifetimes = 2;
+  parameters = contracts.write_header_free.Kinds.ps;
+  result = contracts.write_header_free.Kinds.r;
+  allows = contracts.write_header_free.Reads.Post;
+  Answer = Written;
+  answer = λ κs x. x;
+  Lent = LentOut;
+  lent = λ κs a. record { out = now (a .1 .1 .0) };
+  left = λ κs s. record { out = now (s .1 .1 .0) };
+}

@@ -1,0 +1,65 @@
+-- Made by tools/calls --write from the sources: the public calls of crates/payload.
+use Prim.Native.Nat.{ℕ}
+use mathlib.Core.List.{List}
+use denote.Ref.{now, ptr}
+use Rattle.bundle.specs.declared.Bundle.{Bundle}
+use Rattle.frame.specs.declared.Located.{Located}
+use Rattle.payload.specs.declared.Contents.{Contents}
+use Rattle.payload.proofs as contracts
+use Rattle.claims.specs.Call.{Call}
+
+-- read(form: Form, payload: &[u8]) -> Contents
+abbrev pub read : Call
+read = record {
+  lifetimes = 1;
+  parameters = contracts.read.Kinds.ps;
+  result = contracts.read.Kinds.r;
+  allows = contracts.read.Reads.Post;
+  Answer = Contents;
+  answer = λ κs x. x;
+  Lent = Unit {0};
+  lent = λ κs a. tt;
+  left = λ κs s. tt;
+}
+
+-- locate(form: Form, payload: &[u8], k: usize) -> Located
+abbrev pub locate : Call
+locate = record {
+  lifetimes = 1;
+  parameters = contracts.locate.Kinds.ps;
+  result = contracts.locate.Kinds.r;
+  allows = contracts.locate.Reads.Post;
+  Answer = Located;
+  answer = λ κs x. x;
+  Lent = Unit {0};
+  lent = λ κs a. tt;
+  left = λ κs s. tt;
+}
+
+-- body(form: Form, payload: &[u8], k: usize) -> &[u8]
+abbrev pub body : Call
+body = record {
+  lifetimes = 1;
+  parameters = contracts.body.Kinds.ps;
+  result = contracts.body.Kinds.r;
+  allows = contracts.body.Reads.Post;
+  Answer = List ℕ × (ℕ × ℕ);
+  answer = λ κs x. (now x, ptr x);
+  Lent = Unit {0};
+  lent = λ κs a. tt;
+  left = λ κs s. tt;
+}
+
+-- lay_out(form: Form, payload: &[u8]) -> Bundle
+abbrev pub layOut : Call
+layOut = record {
+  lifetimes = 1;
+  parameters = contracts.lay_out.Kinds.ps;
+  result = contracts.lay_out.Kinds.r;
+  allows = contracts.lay_out.Reads.Post;
+  Answer = Bundle;
+  answer = λ κs x. x;
+  Lent = Unit {0};
+  lent = λ κs a. tt;
+  left = λ κs s. tt;
+}

@@ -1,0 +1,109 @@
+-- Made by tools/calls --write from the sources: the public calls of crates/session.
+use mathlib.Core.Bool.{Bool}
+use denote.Ref.{now}
+use Rattle.session.specs.declared.Copied.{Copied}
+use Rattle.session.specs.declared.Offered.{Offered}
+use Rattle.session.specs.declared.Poured.{Poured}
+use Rattle.session.specs.declared.Session.{Session}
+use Rattle.session.specs.declared.Started.{Started}
+use Rattle.session.proofs as contracts
+use Rattle.claims.specs.Call.{Call}
+use Rattle.claims.specs.Calls.Lent.{LentOut}
+
+-- never_opened() -> Session
+abbrev pub neverOpened : Call
+neverOpened = record {
+  lifetimes = 0;
+  parameters = contracts.never_opened.Kinds.ps;
+  result = contracts.never_opened.Kinds.r;
+  allows = contracts.never_opened.Reads.Post;
+  Answer = Session;
+  answer = λ κs x. x;
+  Lent = Unit {0};
+  lent = λ κs a. tt;
+  left = λ κs s. tt;
+}
+
+-- open(session: Session, source: u32, form: Form) -> Started
+abbrev pub «open» : Call
+«open» = record {
+  lifetimes = 0;
+  parameters = contracts.«open».Kinds.ps;
+  result = contracts.«open».Kinds.r;
+  allows = contracts.«open».Reads.Post;
+  Answer = Started;
+  answer = λ κs x. x;
+  Lent = Unit {0};
+  lent = λ κs a. tt;
+  left = λ κs s. tt;
+}
+
+-- is_open(session: Session) -> bool
+abbrev pub isOpen : Call
+isOpen = record {
+  lifetimes = 0;
+  parameters = contracts.is_open.Kinds.ps;
+  result = contracts.is_open.Kinds.r;
+  allows = contracts.is_open.Reads.Post;
+  Answer = Bool;
+  answer = λ κs x. x;
+  Lent = Unit {0};
+  lent = λ κs a. tt;
+  left = λ κs s. tt;
+}
+
+-- offer(session: Session, source: u32, sequence: u16, timestamp: u32, payload: &[u8]) -> Offered
+abbrev pub offer : Call
+offer = record {
+  lifetimes = 1;
+  parameters = contracts.offer.Kinds.ps;
+  result = contracts.offer.Kinds.r;
+  allows = contracts.offer.Reads.Post;
+  Answer = Offered;
+  answer = λ κs x. x;
+  Lent = Unit {0};
+  lent = λ κs a. tt;
+  left = λ κs s. tt;
+}
+
+-- pour(session: Session, out: &mut [u8]) -> Poured
+abbrev pub pour : Call
+pour = record {
+  lifetimes = 1;
+  parameters = contracts.pour.Kinds.ps;
+  result = contracts.pour.Kinds.r;
+  allows = contracts.pour.Reads.Post;
+  Answer = Poured;
+  answer = λ κs x. x;
+  Lent = LentOut;
+  lent = λ κs a. record { out = now (a .1 .0) };
+  left = λ κs s. record { out = now (s .1 .0) };
+}
+
+-- copy_out(session: Session) -> Copied
+abbrev pub copyOut : Call
+copyOut = record {
+  lifetimes = 0;
+  parameters = contracts.copy_out.Kinds.ps;
+  result = contracts.copy_out.Kinds.r;
+  allows = contracts.copy_out.Reads.Post;
+  Answer = Copied;
+  answer = λ κs x. x;
+  Lent = Unit {0};
+  lent = λ κs a. tt;
+  left = λ κs s. tt;
+}
+
+-- end(_session: Session) -> Session
+abbrev pub end : Call
+end = record {
+  lifetimes = 0;
+  parameters = contracts.end.Kinds.ps;
+  result = contracts.end.Kinds.r;
+  allows = contracts.end.Reads.Post;
+  Answer = Session;
+  answer = λ κs x. x;
+  Lent = Unit {0};
+  lent = λ κs a. tt;
+  left = λ κs s. tt;
+}

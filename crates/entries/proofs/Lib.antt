@@ -1,0 +1,5 @@
+pub mod Walking
+pub mod Clearing
+pub mod EntriesLaws
+pub mod Seeking
+pub mod Written

@@ -1,0 +1,46 @@
+-- `lending::put_last` meets its contract.
+use native.Mathlib.Omega.{arith}
+use borrow.Author.Needs.{needs}
+use Rattle.lending.proofs.LaidLaws.{last-laid, none-laid}
+use Rattle.lending.proofs.put_last.Statement.{statement}
+use Rattle.lending.proofs.put_last.Tie as tie
+
+put-two-requires : tie.Need-put-two-requires
+put-two-requires c κs = search needs
+
+put-pair-requires : tie.Need-put-pair-requires
+put-pair-requires c κs = search needs
+
+fill-requires : tie.Need-fill-requires
+fill-requires c κs = search needs
+
+same-length : tie.Need-same-length
+same-length c = search needs
+
+returns : tie.Need-returns
+returns c =
+    let at-put-two = c .before .before .before .before .before .before in
+    let at-if1 = at-put-two .before .before in
+    let start = at-if1 .before .before in
+    last-laid _ _ (omega (arith, start .pre)) _ _ (at-if1 .if1 .taken) (at-put-two .put-two .ensures) (c .before .before .put-pair .ensures)
+
+same-length-2 : tie.Need-same-length-2
+same-length-2 c = search needs
+
+returns-2 : tie.Need-returns-2
+returns-2 c =
+    let at-if1 = c .before .before .before .before in
+    let start = at-if1 .before .before in
+    none-laid _ _ (omega (arith, start .pre)) _ (at-if1 .if1 .left) (c .before .before .fill .ensures)
+
+pub put-last-spec : {M : Type 1} → statement M
+put-last-spec =
+    tie.close
+    (tie.spec
+    put-two-requires
+    put-pair-requires
+    fill-requires
+    same-length
+    returns
+    same-length-2
+    returns-2)

@@ -210,7 +210,7 @@ fn take(run: Run, offered: Offered, out: &mut [u8]) -> Run
 }
 
 // Whether an answer is 12.
-fn is_later(answer: Taken) -> bool
+fn is_twelve(answer: Taken) -> bool
     ensures { λ r. ⌜ r ≡ isTwelve answer ⌝ }
 {
     match answer {
@@ -233,7 +233,7 @@ fn step(run: Run, capture: &[u8], i: usize, start: usize, out: &mut [u8]) -> Run
     let session = run.session;
     let offered = offer_packet(session, capture, i, start);
     let answer = offered.answer;
-    let later = is_later(answer);
+    let later = is_twelve(answer);
     if later {
         let poured = pour_group(run, out);
         let next = poured.session;

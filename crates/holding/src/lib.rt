@@ -191,9 +191,9 @@ fn packet_right(
         }
         return bundle::frames_right(vocoder, b, marks, room);
     }
-    let blank = bundle::not_held();
-    let no_marks = blank.marks;
-    let no_room = blank.room;
+    let none = bundle::not_held();
+    let no_marks = none.marks;
+    let no_room = none.room;
     bundle::same_bundles(marks, room, &no_marks, &no_room)
 }
 

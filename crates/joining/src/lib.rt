@@ -33,7 +33,7 @@ fn same_group(a: Holding, b: Holding) -> bool
 }
 
 // Whether packet n, held in both, does not differ. The packets are given by their marks and rooms.
-fn agrees_at(
+fn meets(
     held: bool,
     marks: &[u8],
     room: &[u8],
@@ -66,7 +66,7 @@ fn agrees(a: Holding, b: Holding) -> bool
     while n < 8 {
         let at = 10 * n;
         let from = 220 * n;
-        let alike = agrees_at(
+        let alike = meets(
             held[n],
             &marks[at..at + 10],
             &room[from..from + 220],

@@ -221,9 +221,9 @@ pub fn body(form: Form, payload: &[u8], k: usize) -> &[u8]
 pub fn lay_out(form: Form, payload: &[u8]) -> Bundle
     ensures { λ r. ⌜ r ≡ laid (framesRead (readAs (tableOf form) form (now (payload .entry)))) ⌝ }
 {
-    let blank = bundle::not_held();
-    let mut marks = blank.marks;
-    let mut room = blank.room;
+    let none = bundle::not_held();
+    let mut marks = none.marks;
+    let mut room = none.room;
     let mut k: usize = 0;
     'frames: loop {
         let place = locate(form, payload, k);

@@ -249,7 +249,7 @@ fn begin_group(session: Session, arrival: Arrival, lost: usize) -> Offered
 }
 
 // A packet that belongs to the held group: put in, the same again, or another than the one that is held.
-fn put_in(session: Session, arrival: Arrival) -> Offered
+fn belongs(session: Session, arrival: Arrival) -> Offered
     requires { ⌜ arrival .n < 8 ⌝ }
     ensures { λ r. ⌜ r ≡ belongs session arrival ⌝ }
 {
@@ -277,7 +277,7 @@ fn place(session: Session, arrival: Arrival) -> Offered
     let verdict = numbers::decide(before, numbers);
     match verdict {
         Verdict::Begins(lost) => begin_group(session, arrival, lost),
-        Verdict::Belongs => put_in(session, arrival),
+        Verdict::Belongs => belongs(session, arrival),
         Verdict::Refused(reason) => refused(session, reason),
     }
 }

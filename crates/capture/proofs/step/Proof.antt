@@ -10,8 +10,8 @@ use Rattle.capture.proofs.step.Tie as tie
 offer-packet-requires : tie.Need-offer-packet-requires
 offer-packet-requires c κs = search needs
 
-is-later-requires : tie.Need-is-later-requires
-is-later-requires c κs = search needs
+is-twelve-requires : tie.Need-is-twelve-requires
+is-twelve-requires c κs = search needs
 
 pour-group-requires : tie.Need-pour-group-requires
 pour-group-requires c κs = search needs
@@ -35,9 +35,9 @@ returns c =
     let at-offer-packet2 = c .before .before .before .before in
     let at-pour-group = at-offer-packet2 .before .before .before .before in
     let at-if1 = at-pour-group .before .before in
-    let at-is-later = at-if1 .before in
-    let at-offer-packet = at-is-later .before in
-    later-does _ _ _ _ _ _ _ (at-offer-packet .offer-packet .ensures) (at-is-later .is-later .ensures) _ _ _ _ _ (at-if1 .if1 .taken)
+    let at-is-twelve = at-if1 .before in
+    let at-offer-packet = at-is-twelve .before in
+    later-does _ _ _ _ _ _ _ (at-offer-packet .offer-packet .ensures) (at-is-twelve .is-twelve .ensures) _ _ _ _ _ (at-if1 .if1 .taken)
     (at-pour-group .pour-group .ensures) (at-offer-packet2 .offer-packet2 .ensures) (c .before .before .take .ensures)
 
 take-requires-2 : tie.Need-take-requires-2
@@ -53,16 +53,16 @@ same-length-2 c = search needs
 returns-2 : tie.Need-returns-2
 returns-2 c =
     let at-if1 = c .before .before .before .before in
-    let at-is-later = at-if1 .before in
-    let at-offer-packet = at-is-later .before in
-    once-does _ _ _ _ _ _ _ (at-offer-packet .offer-packet .ensures) (at-is-later .is-later .ensures) _ _ (at-if1 .if1 .left) (c .before .before .take2 .ensures)
+    let at-is-twelve = at-if1 .before in
+    let at-offer-packet = at-is-twelve .before in
+    once-does _ _ _ _ _ _ _ (at-offer-packet .offer-packet .ensures) (at-is-twelve .is-twelve .ensures) _ _ (at-if1 .if1 .left) (c .before .before .take2 .ensures)
 
 pub step-spec : {M : Type 1} → statement M
 step-spec =
     tie.close
     (tie.spec
     offer-packet-requires
-    is-later-requires
+    is-twelve-requires
     pour-group-requires
     offer-packet-requires-2
     take-requires

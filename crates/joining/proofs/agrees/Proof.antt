@@ -27,70 +27,70 @@ mul-at c = omega arith
 mul-from : tie.Need-mul-from Inv-loop μ-loop
 mul-from c = omega arith
 
-array-read-agrees-at : tie.Need-array-read-agrees-at Inv-loop μ-loop
-array-read-agrees-at c = omega arith
+array-read-meets : tie.Need-array-read-meets Inv-loop μ-loop
+array-read-meets c = omega arith
 
-add-agrees-at : tie.Need-add-agrees-at Inv-loop μ-loop
-add-agrees-at c = omega arith
+add-meets : tie.Need-add-meets Inv-loop μ-loop
+add-meets c = omega arith
 
-sub-agrees-at : tie.Need-sub-agrees-at Inv-loop μ-loop
-sub-agrees-at c = omega arith
+sub-meets : tie.Need-sub-meets Inv-loop μ-loop
+sub-meets c = omega arith
 
-part-agrees-at-start : tie.Need-part-agrees-at-start Inv-loop μ-loop
-part-agrees-at-start c = omega arith
+part-meets-start : tie.Need-part-meets-start Inv-loop μ-loop
+part-meets-start c = omega arith
 
-part-agrees-at-end : tie.Need-part-agrees-at-end Inv-loop μ-loop
-part-agrees-at-end c =
+part-meets-end : tie.Need-part-meets-end Inv-loop μ-loop
+part-meets-end c =
     let h : length (c .before .before .before .before .before .before .before .before .before .args .a .marks) ≡ 80 = search needs in
     omega arith
 
-add-agrees-at-2 : tie.Need-add-agrees-at-2 Inv-loop μ-loop
-add-agrees-at-2 c = omega arith
+add-meets-2 : tie.Need-add-meets-2 Inv-loop μ-loop
+add-meets-2 c = omega arith
 
-sub-agrees-at-2 : tie.Need-sub-agrees-at-2 Inv-loop μ-loop
-sub-agrees-at-2 c = omega arith
+sub-meets-2 : tie.Need-sub-meets-2 Inv-loop μ-loop
+sub-meets-2 c = omega arith
 
-part-agrees-at-start-2 : tie.Need-part-agrees-at-start-2 Inv-loop μ-loop
-part-agrees-at-start-2 c = omega arith
+part-meets-start-2 : tie.Need-part-meets-start-2 Inv-loop μ-loop
+part-meets-start-2 c = omega arith
 
-part-agrees-at-end-2 : tie.Need-part-agrees-at-end-2 Inv-loop μ-loop
-part-agrees-at-end-2 c =
+part-meets-end-2 : tie.Need-part-meets-end-2 Inv-loop μ-loop
+part-meets-end-2 c =
     let h : length (c .before .before .before .before .before .before .before .before .before .before .before .args .a .room) ≡ 1760 = search needs in
     omega arith
 
-array-read-agrees-at-2 : tie.Need-array-read-agrees-at-2 Inv-loop μ-loop
-array-read-agrees-at-2 c = omega arith
+array-read-meets-2 : tie.Need-array-read-meets-2 Inv-loop μ-loop
+array-read-meets-2 c = omega arith
 
-add-agrees-at-3 : tie.Need-add-agrees-at-3 Inv-loop μ-loop
-add-agrees-at-3 c = omega arith
+add-meets-3 : tie.Need-add-meets-3 Inv-loop μ-loop
+add-meets-3 c = omega arith
 
-sub-agrees-at-3 : tie.Need-sub-agrees-at-3 Inv-loop μ-loop
-sub-agrees-at-3 c = omega arith
+sub-meets-3 : tie.Need-sub-meets-3 Inv-loop μ-loop
+sub-meets-3 c = omega arith
 
-part-agrees-at-start-3 : tie.Need-part-agrees-at-start-3 Inv-loop μ-loop
-part-agrees-at-start-3 c = omega arith
+part-meets-start-3 : tie.Need-part-meets-start-3 Inv-loop μ-loop
+part-meets-start-3 c = omega arith
 
-part-agrees-at-end-3 : tie.Need-part-agrees-at-end-3 Inv-loop μ-loop
-part-agrees-at-end-3 c =
+part-meets-end-3 : tie.Need-part-meets-end-3 Inv-loop μ-loop
+part-meets-end-3 c =
     let h : length (c .before .before .before .before .before .before .before .before .before .before .before .before .before .args .b .marks) ≡ 80 = search needs in
     omega arith
 
-add-agrees-at-4 : tie.Need-add-agrees-at-4 Inv-loop μ-loop
-add-agrees-at-4 c = omega arith
+add-meets-4 : tie.Need-add-meets-4 Inv-loop μ-loop
+add-meets-4 c = omega arith
 
-sub-agrees-at-4 : tie.Need-sub-agrees-at-4 Inv-loop μ-loop
-sub-agrees-at-4 c = omega arith
+sub-meets-4 : tie.Need-sub-meets-4 Inv-loop μ-loop
+sub-meets-4 c = omega arith
 
-part-agrees-at-start-4 : tie.Need-part-agrees-at-start-4 Inv-loop μ-loop
-part-agrees-at-start-4 c = omega arith
+part-meets-start-4 : tie.Need-part-meets-start-4 Inv-loop μ-loop
+part-meets-start-4 c = omega arith
 
-part-agrees-at-end-4 : tie.Need-part-agrees-at-end-4 Inv-loop μ-loop
-part-agrees-at-end-4 c =
+part-meets-end-4 : tie.Need-part-meets-end-4 Inv-loop μ-loop
+part-meets-end-4 c =
     let h : length (c .before .before .before .before .before .before .before .before .before .before .before .before .before .before .before .args .b .room) ≡ 1760 = search needs in
     omega arith
 
-agrees-at-requires : tie.Need-agrees-at-requires Inv-loop μ-loop
-agrees-at-requires c κs = tt
+meets-requires : tie.Need-meets-requires Inv-loop μ-loop
+meets-requires c κs = tt
 
 add-n : tie.Need-add-n Inv-loop μ-loop
 add-n c = omega arith
@@ -101,12 +101,12 @@ loop-less c = omega arith
 loop-again : tie.Need-loop-again Inv-loop μ-loop
 loop-again c =
     let at-loop = c .before .before .before .before .before .before .before .before .before .before .before in
-    (omega arith, all-more _ _ (at-loop .loop .inv .1) (sym (agree-cut _ _ _ _ _ _ _) ∙ sym (c .before .agrees-at .ensures) ∙ c .if1 .taken))
+    (omega arith, all-more _ _ (at-loop .loop .inv .1) (sym (agree-cut _ _ _ _ _ _ _) ∙ sym (c .before .meets .ensures) ∙ c .if1 .taken))
 
 returns : tie.Need-returns Inv-loop μ-loop
 returns c =
     let at-loop = c .before .before .before .before .before .before .before .before .before .before .before in
-    sym (all-fails _ 8 (at-loop .loop .n) (omega arith) (sym (agree-cut _ _ _ _ _ _ _) ∙ sym (c .before .agrees-at .ensures) ∙ c .if1 .left)) ∙ agree-is _ _
+    sym (all-fails _ 8 (at-loop .loop .n) (omega arith) (sym (agree-cut _ _ _ _ _ _ _) ∙ sym (c .before .meets .ensures) ∙ c .if1 .left)) ∙ agree-is _ _
 
 returns-2 : tie.Need-returns-2 Inv-loop μ-loop
 returns-2 c = all-done _ 8 (c .before .loop .n) (c .before .loop .inv .0) (omega arith) (c .before .loop .inv .1) ∙ agree-is _ _
@@ -120,25 +120,25 @@ agrees-spec =
     loop-holds
     mul-at
     mul-from
-    array-read-agrees-at
-    add-agrees-at
-    sub-agrees-at
-    part-agrees-at-start
-    part-agrees-at-end
-    add-agrees-at-2
-    sub-agrees-at-2
-    part-agrees-at-start-2
-    part-agrees-at-end-2
-    array-read-agrees-at-2
-    add-agrees-at-3
-    sub-agrees-at-3
-    part-agrees-at-start-3
-    part-agrees-at-end-3
-    add-agrees-at-4
-    sub-agrees-at-4
-    part-agrees-at-start-4
-    part-agrees-at-end-4
-    agrees-at-requires
+    array-read-meets
+    add-meets
+    sub-meets
+    part-meets-start
+    part-meets-end
+    add-meets-2
+    sub-meets-2
+    part-meets-start-2
+    part-meets-end-2
+    array-read-meets-2
+    add-meets-3
+    sub-meets-3
+    part-meets-start-3
+    part-meets-end-3
+    add-meets-4
+    sub-meets-4
+    part-meets-start-4
+    part-meets-end-4
+    meets-requires
     add-n
     loop-less
     loop-again

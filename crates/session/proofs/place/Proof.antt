@@ -20,8 +20,8 @@ begin-group-requires c κs = search needs
 enum-told : tie.Need-enum-told
 enum-told c = search needs
 
-put-in-requires : tie.Need-put-in-requires
-put-in-requires c κs = search needs
+belongs-requires : tie.Need-belongs-requires
+belongs-requires c κs = search needs
 
 enum-known-verdict-2 : tie.Need-enum-known-verdict-2
 enum-known-verdict-2 c = search needs
@@ -37,7 +37,7 @@ returns c =
 returns-2 : tie.Need-returns-2
 returns-2 c =
     let then = c .before .before .before in
-    c .put-in .ensures ∙ it-belongs _ _ _ _ (then .before .group-before .ensures) (then .decide .ensures) (c .before .enum-told .given .1)
+    c .belongs .ensures ∙ it-belongs _ _ _ _ (then .before .group-before .ensures) (then .decide .ensures) (c .before .enum-told .given .1)
 
 returns-3 : tie.Need-returns-3
 returns-3 c =
@@ -53,7 +53,7 @@ place-spec =
     enum-known-verdict
     begin-group-requires
     enum-told
-    put-in-requires
+    belongs-requires
     enum-known-verdict-2
     refused-requires
     returns

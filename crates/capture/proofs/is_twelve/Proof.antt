@@ -1,10 +1,10 @@
--- `capture::is_later` meets its contract.
+-- `capture::is_twelve` meets its contract.
 use mathlib.Core.Path.{sym, _∙_, ap}
 use borrow.Author.Needs.{needs}
 use Rattle.capture.specs.Run.{isTwelve}
 use Rattle.capture.proofs.RunLaws.{twelve-no, twelve-is}
-use Rattle.capture.proofs.is_later.Statement.{statement}
-use Rattle.capture.proofs.is_later.Tie as tie
+use Rattle.capture.proofs.is_twelve.Statement.{statement}
+use Rattle.capture.proofs.is_twelve.Tie as tie
 
 enum-told : tie.Need-enum-told
 enum-told c = search needs
@@ -21,5 +21,5 @@ returns c = twelve-no _ ∙ ap isTwelve (sym (c .enum-told .given .1))
 returns-2 : tie.Need-returns-2
 returns-2 c = twelve-is _ _ (c .number .ensures) ∙ ap isTwelve (sym (c .before .before .answer .given .1))
 
-pub is-later-spec : {M : Type 1} → statement M
-is-later-spec = tie.close (tie.spec enum-told enum-known-answer number-requires returns returns-2)
+pub is-twelve-spec : {M : Type 1} → statement M
+is-twelve-spec = tie.close (tie.spec enum-told enum-known-answer number-requires returns returns-2)

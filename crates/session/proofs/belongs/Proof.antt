@@ -1,11 +1,11 @@
--- `session::put_in` meets its contract.
+-- `session::belongs` meets its contract.
 use mathlib.Core.Path.{sym, ap, _∙_}
 use borrow.Author.Needs.{needs}
 use Rattle.session.specs.Session.{accept}
 use Rattle.session.specs.declared.Session.{Session}
 use Rattle.session.proofs.SessionLaws.{put-in, again, differs}
-use Rattle.session.proofs.put_in.Statement.{statement}
-use Rattle.session.proofs.put_in.Tie as tie
+use Rattle.session.proofs.belongs.Statement.{statement}
+use Rattle.session.proofs.belongs.Tie as tie
 
 cast-n : tie.Need-cast-n
 cast-n c = search needs
@@ -51,8 +51,8 @@ returns-3 c =
     ∙ ap (λ (x : Session). accept x 0) (c .before .with-group .ensures ∙ rw (c .before .before .with-packet .ensures))
     ∙ put-in _ _ held
 
-pub put-in-spec : {M : Type 1} → statement M
-put-in-spec =
+pub belongs-spec : {M : Type 1} → statement M
+belongs-spec =
     tie.close
     (tie.spec
     cast-n

@@ -4,7 +4,7 @@ use frame::Vocoder;
 ghost use mathlib.Core.Path.{_≡_};
 ghost use Prim.Native.Nat.{_<_};
 ghost use lib.ListN.{length};
-ghost use Rattle.frame.specs.FrameTable.{rowsOf};
+ghost use Rattle.frame.specs.Shape.{roomOf, holdingShape, shapeOf, voiceOf};
 ghost use Rattle.bundle.specs.Bundles.{bundleIn, notHeld, sameBundles, mayStand, frameRight, framesRight};
 
 // One packet's frames: frame k's type at marks[k] and its body at room[22 * k ..].
@@ -15,7 +15,7 @@ pub struct Bundle {
 
 // A packet that is not held: erasures, and room of zeros.
 pub fn not_held() -> Bundle
-    ensures { λ r. ⌜ r ≡ notHeld ⌝ }
+    ensures { λ r. ⌜ r ≡ notHeld holdingShape ⌝ }
 {
     let marks = [14u8; 10];
     let room = [0u8; 220];
@@ -46,10 +46,21 @@ fn may_stand(b: u8, k: usize, mark: u8) -> bool
     mark == 14
 }
 
+// internal: a caller has cut the ten marks and the cells of a packet.
+// Whether a packet of a vocoder's frames reads as one that is not held.
+pub fn is_not_held(vocoder: Vocoder, marks: &[u8], room: &[u8]) -> bool
+    requires { ⌜ length (now room) ≡ roomOf (shapeOf vocoder) ⌝ }
+    ensures { λ r. ⌜ r ≡ sameBundles (bundleIn (now (marks .entry)) (now (room .entry))) (notHeld (shapeOf vocoder)) ⌝ }
+{
+    let erasures = [14u8; 10];
+    let erased = octets::same(marks, &erasures);
+    if erased { octets::zeros(room) } else { false }
+}
+
 // Whether frame k of a packet of b frames keeps the rule.
 fn frame_right(vocoder: Vocoder, b: u8, marks: &[u8], room: &[u8], k: usize) -> bool
-    requires { ⌜ (k < 10) × (length (now marks) ≡ 10) × (length (now room) ≡ 220) ⌝ }
-    ensures { λ r. ⌜ r ≡ frameRight (rowsOf vocoder) b (bundleIn (now (marks .entry)) (now (room .entry))) k ⌝ }
+    requires { ⌜ (k < 10) × (length (now marks) ≡ 10) × (length (now room) ≡ roomOf (shapeOf vocoder)) ⌝ }
+    ensures { λ r. ⌜ r ≡ frameRight (voiceOf vocoder) b (bundleIn (now (marks .entry)) (now (room .entry))) k ⌝ }
 {
     let mark = marks[k];
     let found = frame::row_of(vocoder, mark);
@@ -58,8 +69,9 @@ fn frame_right(vocoder: Vocoder, b: u8, marks: &[u8], room: &[u8], k: usize) -> 
         Lookup::Found(row) => {
             let may = may_stand(b, k, mark);
             if may {
-                let from = 22 * k;
-                octets::zeros(&room[from + row.octets..from + 22])
+                let cell = frame::cell_of(vocoder);
+                let from = cell * k;
+                octets::zeros(&room[from + row.octets..from + cell])
             } else {
                 false
             }
@@ -67,11 +79,11 @@ fn frame_right(vocoder: Vocoder, b: u8, marks: &[u8], room: &[u8], k: usize) -> 
     }
 }
 
-// internal: a caller has cut the ten marks and the 220 octets of a packet.
+// internal: a caller has cut the ten marks and the cells of a packet.
 // Whether every frame of a packet of b frames keeps the rule.
 pub fn frames_right(vocoder: Vocoder, b: u8, marks: &[u8], room: &[u8]) -> bool
-    requires { ⌜ (length (now marks) ≡ 10) × (length (now room) ≡ 220) ⌝ }
-    ensures { λ r. ⌜ r ≡ framesRight (rowsOf vocoder) b (bundleIn (now (marks .entry)) (now (room .entry))) ⌝ }
+    requires { ⌜ (length (now marks) ≡ 10) × (length (now room) ≡ roomOf (shapeOf vocoder)) ⌝ }
+    ensures { λ r. ⌜ r ≡ framesRight (voiceOf vocoder) b (bundleIn (now (marks .entry)) (now (room .entry))) ⌝ }
 {
     let mut k: usize = 0;
     while k < 10 {

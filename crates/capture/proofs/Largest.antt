@@ -7,26 +7,28 @@ use mathlib.Core.List.{List, [], _∷_, _++_, append-nil}
 use mathlib.Core.Logic.{⊎-elim}
 use native.Mathlib.Nat.{add-zero, zero-add, le-refl, mul-le-mul, suc-mul, eq-or-lt-of-le, le-of-suc-le-suc}
 use native.Mathlib.Omega.{arith}
-use lib.ListN.{length, take, drop, getD, replicate, length-append, length-take, length-replicate, getD-replicate}
-use lib.Seq.{getD-take, getD-drop, getD-set-other}
+use lib.ListN.{length, getD, replicate, length-append, length-take, length-replicate, getD-replicate}
+use lib.Seq.{getD-set-other}
 use lib.Dec.{T, eqb, leb}
 use borrow.Author.Tests.{eqb-true, eqb-false, leb-true}
-use Rattle.octets.specs.Octets.{sameOctets, region}
+use Rattle.octets.specs.Octets.{sameOctets}
 use Rattle.octets.proofs.Logic.{apart, both-true}
 use Rattle.octets.proofs.OctetsLaws.{same-true}
-use Rattle.frame.specs.FrameTable.{FrameTable, size, within, erases, erasure}
+use Rattle.frame.specs.FrameTable.{FrameTable, Frame, size, within, erases, erasure}
+use Rattle.frame.specs.Shape.{holdingShape, voiceWith}
+use Rattle.numbers.specs.declared.GroupNumbers.{GroupNumbers}
 use Rattle.frame.proofs.FrameTableLaws.{size-within, erasure-listed}
 use Rattle.answers.specs.Outputs.{Made}
 use Rattle.answers.specs.Outputs as outputs
 use Rattle.entries.specs.Kind.{Kind}
 use Rattle.entries.specs.Entries.{entriesOf}
 use Rattle.holding.specs.Group.{isNothing, heldAt, bundleAt, withPacket, begun, holds, rightAt}
-use Rattle.bundle.specs.Bundles.{notHeld, sameBundles}
+use Rattle.bundle.specs.Bundles.{notHeld, sameBundles, markAt, frameOf}
 use Rattle.holding.specs.declared.Holding.{Holding}
 use Rattle.bundle.specs.declared.Bundle.{Bundle}
 use Rattle.holding.proofs.GroupLaws.{packet-lost, sound-has, holds-sound, nothing-is, sound-something}
 use Rattle.octets.proofs.Below.{all-at}
-use Rattle.pouring.specs.Pouring.{frameIn, row, rows, inTime, poured}
+use Rattle.pouring.specs.Pouring.{row, rows, inTime, poured}
 use Rattle.frame.specs.Places.{upTo}
 use Rattle.pouring.proofs.PouringLaws.{entries-append}
 use Rattle.answers.specs.declared.Refusal.{Refusal}
@@ -52,32 +54,36 @@ heldBelow h zero = 0
 heldBelow h (suc m) = heldBelow h m + cond (heldAt h m) 1 0
 
 -- ---- the entries of a group take 80 octets, and 220 more for each packet held
-module _ (v : FrameTable) (w : T (within 22 v)) (z : T (erases v)) (h : Holding) (right : (n : ℕ) → n < 8 → rightAt v h n ≡ true) where
-  lost-mark : (n k : ℕ) → n < 8 → k < 10 → heldAt h n ≡ false → getD (h .marks) (10 * n + k) 0 ≡ erasure
-  unfolding rightAt sameBundles bundleAt notHeld region
-  lost-mark n k p q e =
-      let s : sameBundles (bundleAt h n) notHeld ≡ true = packet-lost v (h .l) (h .b) n (heldAt h n) (bundleAt h n) e ∙ right n p in
-      let m = same-true (take 10 (drop (10 * n) (h .marks))) (replicate 10 erasure) (both-true (sameOctets (take 10 (drop (10 * n) (h .marks))) (replicate 10 erasure)) _ s .0) in
-      sym (getD-drop (10 * n) (h .marks) k 0) ∙ sym (getD-take 10 (drop (10 * n) (h .marks)) k 0 q) ∙ ap (λ (l : List ℕ). getD l k 0) m ∙ getD-replicate 10 k erasure 0 q
+module _ (v : FrameTable) (w : T (within 22 v)) (z : T (erases v)) (h : Holding) (right : (n : ℕ) → n < 8 → rightAt (voiceWith v) h n ≡ true) where
+  abbrev here : ℕ → ℕ → Frame
+  here n k = frameOf (voiceWith v) (bundleAt holdingShape h n) k
 
-  body-small : (n k : ℕ) → n < 8 → k < 10 → length (frameIn v (h .marks) (h .room) n k .body) ≤ cond (heldAt h n) 22 0
-  unfolding frameIn
+  lost-mark : (n k : ℕ) → n < 8 → k < 10 → heldAt h n ≡ false → markAt (bundleAt holdingShape h n) k ≡ erasure
+  unfolding rightAt sameBundles markAt notHeld
+  lost-mark n k p q e =
+      let b = bundleAt holdingShape h n in
+      let s : sameBundles b (notHeld holdingShape) ≡ true = packet-lost (voiceWith v) (h .l) (h .b) n (heldAt h n) b e ∙ right n p in
+      let m = same-true (b .marks) (replicate 10 erasure) (both-true (sameOctets (b .marks) (replicate 10 erasure)) _ s .0) in
+      ap (λ (l : List ℕ). getD l k 0) m ∙ getD-replicate 10 k erasure 0 q
+
+  body-small : (n k : ℕ) → n < 8 → k < 10 → length (here n k .body) ≤ cond (heldAt h n) 22 0
+  unfolding frameOf
   body-small n k p q = go (heldAt h n) refl
     where
-      go : (b : Bool) → heldAt h n ≡ b → length (take (size v (getD (h .marks) (10 * n + k) 0)) (drop (220 * n + 22 * k) (h .room))) ≤ cond b 22 0
-      go true e = simp length-take (omega (arith, size-within 22 v (getD (h .marks) (10 * n + k) 0) w))
+      go : (b : Bool) → heldAt h n ≡ b → length (here n k .body) ≤ cond b 22 0
+      go true e = simp length-take (omega (arith, size-within 22 v (markAt (bundleAt holdingShape h n) k) w))
       go false e =
-          let y : size v (getD (h .marks) (10 * n + k) 0) ≡ 0 = ap (size v) (lost-mark n k p q e) ∙ erasure-listed v z .1 in
+          let y : size v (markAt (bundleAt holdingShape h n) k) ≡ 0 = ap (size v) (lost-mark n k p q e) ∙ erasure-listed v z .1 in
           simp length-take (omega arith)
 
-  row-small : (k m : ℕ) → m ≤ 8 → k < 10 → length (entriesOf (row v (h .marks) (h .room) k m)) ≤ m + 22 * heldBelow h m
+  row-small : (k m : ℕ) → m ≤ 8 → k < 10 → length (entriesOf (row (voiceWith v) (h .marks) (h .room) k m)) ≤ m + 22 * heldBelow h m
   unfolding row upTo
   row-small k zero p q = omega arith
   row-small k (suc m) p q =
-      let f = frameIn v (h .marks) (h .room) m k in
+      let f = here m k in
       let i = row-small k m (omega arith) q in
-      let e : length (entriesOf (row v (h .marks) (h .room) k m ++ (f ∷ []))) ≡ length (entriesOf (row v (h .marks) (h .room) k m)) + length (entriesOf (f ∷ [])) =
-      ap length (entries-append (row v (h .marks) (h .room) k m) (f ∷ [])) ∙ length-append (entriesOf (row v (h .marks) (h .room) k m)) (entriesOf (f ∷ [])) in
+      let e : length (entriesOf (row (voiceWith v) (h .marks) (h .room) k m ++ (f ∷ []))) ≡ length (entriesOf (row (voiceWith v) (h .marks) (h .room) k m)) + length (entriesOf (f ∷ [])) =
+      ap length (entries-append (row (voiceWith v) (h .marks) (h .room) k m) (f ∷ [])) ∙ length-append (entriesOf (row (voiceWith v) (h .marks) (h .room) k m)) (entriesOf (f ∷ [])) in
       let b : length (f .body ++ []) ≡ length (f .body) = ap length (append-nil (f .body)) in
       let s : length (f .body) ≤ cond (heldAt h m) 22 0 = body-small m k p q in
       let c : cond (heldAt h m) 22 0 ≡ 22 * cond (heldAt h m) 1 0 = times (heldAt h m) in
@@ -87,14 +93,14 @@ module _ (v : FrameTable) (w : T (within 22 v)) (z : T (erases v)) (h : Holding)
       times true = refl
       times false = refl
 
-  rows-small : (m b : ℕ) → m ≤ 8 → b ≤ 10 → length (entriesOf (rows v (h .marks) (h .room) m b)) ≤ b * (m + 22 * heldBelow h m)
+  rows-small : (m b : ℕ) → m ≤ 8 → b ≤ 10 → length (entriesOf (rows (voiceWith v) (h .marks) (h .room) m b)) ≤ b * (m + 22 * heldBelow h m)
   unfolding rows
   rows-small m zero p q = omega arith
   rows-small m (suc b) p q =
       let i = rows-small m b p (omega arith) in
       let j = row-small b m p q in
-      let rs = rows v (h .marks) (h .room) m b in
-      let x = row v (h .marks) (h .room) b m in
+      let rs = rows (voiceWith v) (h .marks) (h .room) m b in
+      let x = row (voiceWith v) (h .marks) (h .room) b m in
       let e : length (entriesOf (rs ++ x)) ≡ length (entriesOf rs) + length (entriesOf x) =
       ap length (entries-append rs x) ∙ length-append (entriesOf rs) (entriesOf x) in
       omega (arith, suc-mul b (m + 22 * heldBelow h m))
@@ -104,11 +110,11 @@ held-grows h m zero p = let e : m ≡ 0 = omega arith in rw e (le-refl 0)
 held-grows h m (suc n) p =
     ⊎-elim (λ (e : m ≡ suc n). rw e (le-refl _)) (λ (q : m < suc n). omega (arith, held-grows h m n (le-of-suc-le-suc q))) (eq-or-lt-of-le p)
 
-pour-small : (v : FrameTable) → T (within 22 v) → T (erases v) → (h : Holding) → holds v h ≡ true → length (entriesOf (inTime v h)) ≤ 80 + 220 * heldBelow h 8
+pour-small : (v : FrameTable) → T (within 22 v) → T (erases v) → (h : Holding) → holds (voiceWith v) h ≡ true → length (entriesOf (inTime (voiceWith v) h)) ≤ 80 + 220 * heldBelow h 8
 pour-small v w z h e =
-    let s = sound-has v h (holds-sound v h e .0) in
+    let s = sound-has (voiceWith v) h (holds-sound (voiceWith v) h e .0) in
     let low : h .l + 1 ≤ 8 = omega (arith, s .low) in
-    let i = rows-small v w z h (λ n p. all-at (rightAt v h) 8 n (s .packets) p) (h .l + 1) (h .b) low (s .few) in
+    let i = rows-small v w z h (λ n p. all-at (rightAt (voiceWith v) h) 8 n (s .packets) p) (h .l + 1) (h .b) low (s .few) in
     let g = held-grows h (h .l + 1) 8 low in
     let wide : h .l + 1 + 22 * heldBelow h (h .l + 1) ≤ 8 + 22 * heldBelow h 8 = omega arith in
     let m = mul-le-mul {n₁ = h .b} {m₁ = h .l + 1 + 22 * heldBelow h (h .l + 1)} {n₂ = 10} {m₂ = 8 + 22 * heldBelow h 8} (s .few) wide in
@@ -120,43 +126,43 @@ held-few h (suc m) = let i = held-few h m in omega (arith, i, at-most-one (heldA
 
 -- a packet put in is one more; of a group just begun none is held
 module _ (h : Holding) (n : ℕ) (p : Bundle) where
-  with-other : (m : ℕ) → (m ≡ n → ⊥) → heldAt (withPacket h n p) m ≡ heldAt h m
+  with-other : (m : ℕ) → (m ≡ n → ⊥) → heldAt (withPacket holdingShape h n p) m ≡ heldAt h m
   unfolding heldAt withPacket
   with-other m d = getD-set-other (h .held) n m true false d
 
-  with-below : (m : ℕ) → m ≤ n → heldBelow (withPacket h n p) m ≡ heldBelow h m
+  with-below : (m : ℕ) → m ≤ n → heldBelow (withPacket holdingShape h n p) m ≡ heldBelow h m
   with-below zero q = refl
   with-below (suc m) q = ap₂ (λ (i : ℕ) (t : Bool). i + cond t 1 0) (with-below m (omega arith)) (with-other m (λ (e : m ≡ n). absurd (omega arith)))
 
-  with-small : (m : ℕ) → heldBelow (withPacket h n p) m ≤ heldBelow h m + 1
+  with-small : (m : ℕ) → heldBelow (withPacket holdingShape h n p) m ≤ heldBelow h m + 1
   with-small zero = omega arith
   with-small (suc m) = go (with-small m) (eqb m n) refl
     where
-      go : heldBelow (withPacket h n p) m ≤ heldBelow h m + 1 → (b : Bool) → eqb m n ≡ b → heldBelow (withPacket h n p) (suc m) ≤ heldBelow h (suc m) + 1
+      go : heldBelow (withPacket holdingShape h n p) m ≤ heldBelow h m + 1 → (b : Bool) → eqb m n ≡ b → heldBelow (withPacket holdingShape h n p) (suc m) ≤ heldBelow h (suc m) + 1
       go j true e =
           let q : m ≡ n = eqb-true m n e in
           let i = with-below m (omega arith) in
-          omega (arith, i, at-most-one (heldAt (withPacket h n p) m))
+          omega (arith, i, at-most-one (heldAt (withPacket holdingShape h n p) m))
       go j false e =
           let q = ap {B = ℕ} (λ (t : Bool). cond t 1 0) (with-other m (eqb-false m n e)) in
           omega (arith, j, q)
 
-begun-none : (source sequence timestamp l b m : ℕ) → m ≤ 8 → heldBelow (begun source sequence timestamp l b) m ≡ 0
+begun-none : (source : ℕ) (g : GroupNumbers) (m : ℕ) → m ≤ 8 → heldBelow (begun holdingShape source g) m ≡ 0
 unfolding heldAt begun
-begun-none source sequence timestamp l b zero q = refl
-begun-none source sequence timestamp l b (suc m) q =
+begun-none source g zero q = refl
+begun-none source g (suc m) q =
     let e = ap {B = ℕ} (λ (t : Bool). cond t 1 0) (getD-replicate 8 m false false q) in
-    omega (arith, begun-none source sequence timestamp l b m (omega arith), e)
+    omega (arith, begun-none source g m (omega arith), e)
 
 -- ---- what a session's group would pour, and the most lost frames that an offer reports
 abbrev weight : Session → ℕ
-weight s = cond (isNothing (s .group)) 0 (80 + 220 * heldBelow (s .group) 8)
+weight s = cond (isNothing holdingShape (s .group)) 0 (80 + 220 * heldBelow (s .group) 8)
 
 abbrev before : Session → ℕ
 before s = cond (s .poured) 1000 0
 
 weight-most : (s : Session) → weight s ≤ 80 + 220 * heldBelow (s .group) 8
-weight-most s = go (isNothing (s .group))
+weight-most s = go (isNothing holdingShape (s .group))
   where
     go : (b : Bool) → cond b 0 (80 + 220 * heldBelow (s .group) 8) ≤ 80 + 220 * heldBelow (s .group) 8
     go true = omega arith
@@ -169,24 +175,23 @@ data Brings (s : Session) (o : Offered) : Type 0 where
       lost ≤ 1000 → lost + weight t ≤ weight s + 300 + before s → Brings s o
 
 -- a group that a packet begins
-begun-weight : (s : Session) (a : Arrival) → let g = a .numbers in
-    weight (withGroup s (withPacket (begun (s .source) (g .sequence) (g .timestamp) (g .l) (g .b)) (a .n) (a .packet))) ≤ 300
+begun-weight : (s : Session) (a : Arrival) →
+    weight (withGroup s (withPacket holdingShape (begun holdingShape (s .source) (a .numbers)) (a .n) (a .packet))) ≤ 300
 unfolding withGroup
 begun-weight s a =
-    let g = a .numbers in
-    let none = begun (s .source) (g .sequence) (g .timestamp) (g .l) (g .b) in
-    let e = begun-none (s .source) (g .sequence) (g .timestamp) (g .l) (g .b) 8 (le-refl 8) in
-    omega (arith, weight-most (withGroup s (withPacket none (a .n) (a .packet))), with-small none (a .n) (a .packet) 8, e)
+    let none = begun holdingShape (s .source) (a .numbers) in
+    let e = begun-none (s .source) (a .numbers) 8 (le-refl 8) in
+    omega (arith, weight-most (withGroup s (withPacket holdingShape none (a .n) (a .packet))), with-small none (a .n) (a .packet) 8, e)
 
-placed-brings : (s : Session) (a : Arrival) (o : Offered) → lastRight s ≡ true → Placed s a o → Brings s o
+placed-brings : (s : Session) (a : Arrival) (o : Offered) → lastRight holdingShape s ≡ true → Placed holdingShape s a o → Brings s o
 unfolding begins withGroup lastRight
 placed-brings s a o r (no x e) = nothing-new x e
 placed-brings s a o r (again q e) = more s 0 e refl refl (omega arith) (omega arith)
 placed-brings s a o r (put q f i e) =
     let g = s .group in
     let held : weight s ≡ 80 + 220 * heldBelow g 8 = simp q in
-    more (withGroup s (withPacket g (a .n) (a .packet))) 0 e refl refl (omega arith)
-    (omega (arith, weight-most (withGroup s (withPacket g (a .n) (a .packet))), with-small g (a .n) (a .packet) 8, held))
+    more (withGroup s (withPacket holdingShape g (a .n) (a .packet))) 0 e refl refl (omega arith)
+    (omega (arith, weight-most (withGroup s (withPacket holdingShape g (a .n) (a .packet))), with-small g (a .n) (a .packet) 8, held))
 placed-brings s a o r (first q p e) = more _ 0 e refl refl (omega arith) (omega (arith, begun-weight s a))
 placed-brings s a o r (next q p lost f h e) =
     let x : (leb (s .«last_l») 7 && (leb 1 (s .«last_b») && leb (s .«last_b») 10)) ≡ true =
@@ -198,13 +203,14 @@ placed-brings s a o r (next q p lost f h e) =
 
 offer-brings : (v : FrameTable) (s : Session) (h : Heard) → Brings s (offeredTo v s h)
 unfolding offeredTo isOpen
-offer-brings v s h = go (offered v s (h .source) (h .sequence) (h .timestamp) (h .payload)) (offer-ends v s (h .source) (h .sequence) (h .timestamp) (h .payload))
+offer-brings v s h = go (offered (voiceWith v) s (h .source) (h .sequence) (h .timestamp) (h .payload)) (offer-ends (voiceWith v) s (h .source) (h .sequence) (h .timestamp) (h .payload))
   where
-    go : (o : Offered) → Ends v s (h .source) (h .sequence) (h .timestamp) (h .payload) o → Brings s o
+    go : (o : Offered) → Ends (voiceWith v) s (h .source) (h .sequence) (h .timestamp) (h .payload) o → Brings s o
     go o (refuses r e) = nothing-new r e
     go o (places op q l n d fs r x) =
-        let y = both-true (formRight (s .form)) (lastRight s && groupRight v s) (both-true (s .«open») (formRight (s .form) && (lastRight s && groupRight v s)) op .1) in
-        placed-brings s (arrival (h .sequence) (h .timestamp) l n fs) o (both-true (lastRight s) (groupRight v s) (y .1) .0) x
+        let rest = lastRight holdingShape s && groupRight (voiceWith v) s in
+        let y = both-true (formRight (s .form)) rest (both-true (s .«open») (formRight (s .form) && rest) op .1) in
+        placed-brings s (arrival holdingShape (h .sequence) (h .timestamp) l n fs) o (both-true (lastRight holdingShape s) (groupRight (voiceWith v) s) (y .1) .0) x
 
 -- so the lost frames of an answer are few
 pub lost-few : (v : FrameTable) (s : Session) (h : Heard) → lostIn (offeredTo v s h .answer) ≤ 1000
@@ -232,7 +238,7 @@ offering-brought kind s h = go (offeredTo (kind .table) s h) (offer-brings (kind
 -- ---- no step changes whose session it is
 pouring-source : (v : FrameTable) (s : Session) → pouring v s .session .source ≡ s .source
 unfolding pouring pouredOf ended
-pouring-source v s = go (pourMade v s)
+pouring-source v s = go (pourMade (voiceWith v) s)
   where
     go : (m : Made) → pouredOf s m .session .source ≡ s .source
     go (outputs.octets w) = refl
@@ -249,7 +255,7 @@ step-source kind s h = go (isTwelve (offeredTo (kind .table) s h .answer))
 -- ---- pouring in a run
 data Pours (s : Session) (a : Step) : Type 0 where
   none : a ≡ record { session = s; octets = [] } → Pours s a
-  some : a .session ≡ ended s → 80 ≤ weight s → length (a .octets) ≤ weight s → Pours s a
+  some : a .session ≡ ended holdingShape s → 80 ≤ weight s → length (a .octets) ≤ weight s → Pours s a
 
 -- ---- a run of i packets that has recorded len octets
 abbrev cap : Bool → ℕ → ℕ
@@ -276,7 +282,7 @@ then-small s len i a h b = go (s .poured) (a .session .poured) (b .same) h (b .s
 abbrev pub madeIf : FrameTable → Session → Bool → Bool → Made
 madeIf v s o b =
     let none = outputs.refusedOutput NotApplicable in
-    cond o (cond b (outputs.octets (entriesOf (inTime v (s .group)))) none) none
+    cond o (cond b (outputs.octets (entriesOf (inTime (voiceWith v) (s .group)))) none) none
 
 -- the length of what stands behind n octets
 behind : (n : ℕ) (xs ys : List ℕ) → n + length (xs ++ ys) ≡ n + length xs + length ys
@@ -285,32 +291,32 @@ behind n xs ys = omega (arith, length-append xs ys)
 module _ (v : FrameTable) (w : T (within 22 v)) (z : T (erases v)) where
   pour-ends : (s : Session) → Pours s (pouring v s)
   unfolding pouring pouredOf pourMade poured
-  pour-ends s = go (isOpen v s) (holds v (s .group)) refl
+  pour-ends s = go (isOpen (voiceWith v) s) (holds (voiceWith v) (s .group)) refl
     where
-      go : (o b : Bool) → holds v (s .group) ≡ b → Pours s (pouredOf s (madeIf v s o b))
+      go : (o b : Bool) → holds (voiceWith v) (s .group) ≡ b → Pours s (pouredOf s (madeIf v s o b))
       go false b e = none refl
       go true false e = none refl
       go true true e =
-          let x : weight s ≡ 80 + 220 * heldBelow (s .group) 8 = simp (sound-something v (s .group) (sound-has v (s .group) (holds-sound v (s .group) e .0))) in
+          let x : weight s ≡ 80 + 220 * heldBelow (s .group) 8 = simp (sound-something (voiceWith v) (s .group) (sound-has (voiceWith v) (s .group) (holds-sound (voiceWith v) (s .group) e .0))) in
           some refl (omega arith) (omega (arith, x, pour-small v w z (s .group) e))
 
   -- a group that is poured has at most 1,840 octets
-  pub pour-most : (s : Session) (y : List ℕ) → pourMade v s ≡ outputs.octets y → length y ≤ 1840
+  pub pour-most : (s : Session) (y : List ℕ) → pourMade (voiceWith v) s ≡ outputs.octets y → length y ≤ 1840
   unfolding pourMade poured
-  pour-most s y q = go (isOpen v s) (holds v (s .group)) refl q
+  pour-most s y q = go (isOpen (voiceWith v) s) (holds (voiceWith v) (s .group)) refl q
     where
-      go : (o b : Bool) → holds v (s .group) ≡ b → madeIf v s o b ≡ outputs.octets y → length y ≤ 1840
+      go : (o b : Bool) → holds (voiceWith v) (s .group) ≡ b → madeIf v s o b ≡ outputs.octets y → length y ≤ 1840
       go false b e x = apart (cc)
       go true false e x = apart (cc)
       go true true e x =
-          let f : entriesOf (inTime v (s .group)) ≡ y = cc in
+          let f : entriesOf (inTime (voiceWith v) (s .group)) ≡ y = cc in
           omega (arith, pour-small v w z (s .group) e, held-few (s .group) 8, ap length f)
 
   pub pouring-few : (s : Session) → length (pouring v s .octets) ≤ 1840
   unfolding pouring pouredOf
-  pouring-few s = go (pourMade v s) refl
+  pouring-few s = go (pourMade (voiceWith v) s) refl
     where
-      go : (m : Made) → pourMade v s ≡ m → length (pouredOf s m .octets) ≤ 1840
+      go : (m : Made) → pourMade (voiceWith v) s ≡ m → length (pouredOf s m .octets) ≤ 1840
       go (outputs.octets y) e = pour-most s y e
       go (outputs.refusedOutput r) e = omega arith
 
@@ -325,9 +331,9 @@ module _ (v : FrameTable) (w : T (within 22 v)) (z : T (erases v)) where
       go : (a : Step) → Pours s a → Small (a .session) (len + length (a .octets)) i
       go a (none e) = let q : Small s (len + 0) i = omega arith in rw e q
       go a (some e x y) =
-          let q : weight (ended s) ≡ 0 = simp nothing-is in
+          let q : weight (ended holdingShape s) ≡ 0 = simp (nothing-is holdingShape) in
           let k = first (s .poured) h x in
-          let r : Small (ended s) (len + length (a .octets)) i = omega arith in
+          let r : Small (ended holdingShape s) (len + length (a .octets)) i = omega arith in
           rw e r
 
 module _ (kind : Kind) (w : T (within 22 (kind .table))) (z : T (erases (kind .table))) where
@@ -356,8 +362,8 @@ module _ (kind : Kind) (w : T (within 22 (kind .table))) (z : T (erases (kind .t
 
   first-small : (hs : List Heard) → Small (firstSession hs) 0 0
   unfolding firstSession neverOpened fresh vacant
-  first-small [] = simp nothing-is (omega arith)
-  first-small (h ∷ hs) = simp nothing-is (omega arith)
+  first-small [] = simp (nothing-is holdingShape) (omega arith)
+  first-small (h ∷ hs) = simp (nothing-is holdingShape) (omega arith)
 
   few-octets : (s : Session) (len n : ℕ) → n ≤ 256 → Small s len n → len ≤ 256 * 300 + 255 * 1000
   few-octets s len n h x = go (s .poured) x

@@ -13,6 +13,7 @@ use Rattle.octets.specs.Octets.{over, twoAt, fourAt}
 use Rattle.octets.proofs.Logic.{apart}
 use Rattle.octets.proofs.OctetsLaws.{over-append, over-nothing, length-over, part-is}
 use Rattle.frame.specs.FrameTable.{FrameTable, within, erases}
+use Rattle.frame.specs.Shape.{holdingShape, voiceWith}
 use Rattle.frame.specs.Places.{upTo}
 use Rattle.answers.specs.Answers.{numberOf}
 use Rattle.answers.specs.Outputs.{Made, octets, refusedOutput, writtenOf, outAfter, Writes}
@@ -70,15 +71,15 @@ run-more kind s f i =
     ∙ ap (λ (b : Step). record { session = b .session; octets = a .octets ++ b .octets }) (one-step kind (a .session) (f i))
 
 -- ---- the first session
-pub first-none : (c : List ℕ) (n : ℕ) → n ≡ countOf c → n ≡ 0 → neverOpened ≡ firstSession (packetsIn c)
+pub first-none : (c : List ℕ) (n : ℕ) → n ≡ countOf c → n ≡ 0 → neverOpened holdingShape ≡ firstSession (packetsIn c)
 unfolding packetsIn firstSession upTo
 first-none c n e z = let q : countOf c ≡ 0 = sym e ∙ z in rw q
 
-first-some : (c : List ℕ) (n : ℕ) → n ≡ countOf c → (n ≡ 0 → ⊥) → fresh (heardAt c 0 .source) captureForm ≡ firstSession (packetsIn c)
+first-some : (c : List ℕ) (n : ℕ) → n ≡ countOf c → (n ≡ 0 → ⊥) → fresh holdingShape (heardAt c 0 .source) captureForm ≡ firstSession (packetsIn c)
 unfolding packetsIn firstSession
 first-some c n e z = go (countOf c) (λ (q : countOf c ≡ 0). z (e ∙ q))
   where
-    go : (m : ℕ) → (m ≡ 0 → ⊥) → fresh (heardAt c 0 .source) captureForm ≡ firstSession (upTo (heardAt c) m)
+    go : (m : ℕ) → (m ≡ 0 → ⊥) → fresh holdingShape (heardAt c 0 .source) captureForm ≡ firstSession (upTo (heardAt c) m)
     go zero h = absurd (h refl)
     go (suc m) h = ap firstSession (sym (upTo-first (heardAt c) m))
 
@@ -87,10 +88,10 @@ pub first-opened :
     n ≡ countOf c →
     (n ≡ 0 → ⊥) →
     x ≡ fourAt c 2 →
-    t ≡ openedFor s x (Interleaved (record { «max_l» = 7; «max_b» = 10 })) →
+    t ≡ openedFor holdingShape s x (Interleaved (record { «max_l» = 7; «max_b» = 10 })) →
     t .session ≡ firstSession (packetsIn c)
 unfolding heardAt openedFor formRight captureForm
-first-opened c n x s t e z y q = ap (λ (o : Started). o .session) q ∙ ap (λ (i : ℕ). fresh i captureForm) y ∙ first-some c n e z
+first-opened c n x s t e z y q = ap (λ (o : Started). o .session) q ∙ ap (λ (i : ℕ). fresh holdingShape i captureForm) y ∙ first-some c n e z
 
 -- ---- a packet of the capture, offered
 pub offer-heard :
@@ -100,7 +101,7 @@ pub offer-heard :
     timestamp ≡ fourAt c (2 + 12 * i + 6) →
     size ≡ twoAt c (2 + 12 * i + 10) →
     start ≡ startAt c i →
-    r ≡ offered v s source sequence timestamp (take (start + size - start) (drop start c)) →
+    r ≡ offered (voiceWith v) s source sequence timestamp (take (start + size - start) (drop start c)) →
     r ≡ offeredTo v s (heardAt c i)
 unfolding heardAt offeredTo
 offer-heard v s c i source sequence timestamp start size r a b d e f q =
@@ -194,11 +195,11 @@ lost-fit v s h o e = rw e (lost-few v s h)
 
 -- ---- pouring, into room for any group
 module _ (v : FrameTable) (w : T (within 22 v)) (z : T (erases v)) (s : Session) (room room′ : List ℕ) (long : length room ≡ 1840) where
-  pub pours-none : (a : Written) (r : Refusal) → Writes (pourMade v s) room a room′ → a ≡ written.Refused r → pouring v s ≡ record { session = s; octets = [] }
+  pub pours-none : (a : Written) (r : Refusal) → Writes (pourMade (voiceWith v) s) room a room′ → a ≡ written.Refused r → pouring v s ≡ record { session = s; octets = [] }
   unfolding pouring pouredOf writtenOf
-  pours-none a r x q = go (pourMade v s) refl (sym q ∙ x .answer)
+  pours-none a r x q = go (pourMade (voiceWith v) s) refl (sym q ∙ x .answer)
     where
-      go : (m : Made) → pourMade v s ≡ m → written.Refused r ≡ writtenOf m room → pouredOf s m ≡ record { session = s; octets = [] }
+      go : (m : Made) → pourMade (voiceWith v) s ≡ m → written.Refused r ≡ writtenOf m room → pouredOf s m ≡ record { session = s; octets = [] }
       go (refusedOutput y) e a = refl
       go (octets y) e a =
           let h : length y ≤ length room = omega (arith, pour-most v w z s y e) in
@@ -208,16 +209,16 @@ module _ (v : FrameTable) (w : T (within 22 v)) (z : T (erases v)) (s : Session)
 
   -- the octets that were poured, of the room that was lent
   pub record Poured (n : ℕ) : Type 0 where
-    pub step : pouring v s ≡ record { session = ended s; octets = take n room′ }
+    pub step : pouring v s ≡ record { session = ended holdingShape s; octets = take n room′ }
     pub count : n ≡ length (take n room′)
     pub inside : n ≤ length room′
     pub few : n ≤ 1840
 
-  pub pours-some : (a : Written) (n : ℕ) → Writes (pourMade v s) room a room′ → a ≡ written.Octets n → Poured n
+  pub pours-some : (a : Written) (n : ℕ) → Writes (pourMade (voiceWith v) s) room a room′ → a ≡ written.Octets n → Poured n
   unfolding pouring pouredOf writtenOf outAfter
-  pours-some a n x q = go (pourMade v s) refl (sym q ∙ x .answer) (x .output)
+  pours-some a n x q = go (pourMade (voiceWith v) s) refl (sym q ∙ x .answer) (x .output)
     where
-      go : (m : Made) → pourMade v s ≡ m → written.Octets n ≡ writtenOf m room → room′ ≡ outAfter m room → Poured n
+      go : (m : Made) → pourMade (voiceWith v) s ≡ m → written.Octets n ≡ writtenOf m room → room′ ≡ outAfter m room → Poured n
       go (refusedOutput y) e a o = apart (cc)
       go (octets y) e a o =
           let h : length y ≤ length room = omega (arith, pour-most v w z s y e) in
@@ -227,7 +228,7 @@ module _ (v : FrameTable) (w : T (within 22 v)) (z : T (erases v)) (s : Session)
           let f : room′ ≡ y ++ drop (length y) room = o ∙ simp k in
           let t : take n room′ ≡ y = ap (take n) f ∙ take-at y (drop (length y) room) n (sym q) in
           record {
-            step = ap (pouredOf s) e ∙ ap (λ (l : List ℕ). record { session = ended s; octets = l }) (sym t);
+            step = ap (pouredOf s) e ∙ ap (λ (l : List ℕ). record { session = ended holdingShape s; octets = l }) (sym t);
             count = q ∙ ap length (sym t);
             inside = omega (arith, ap length f, length-append y (drop (length y) room));
             few = omega arith;
@@ -236,15 +237,15 @@ module _ (v : FrameTable) (w : T (within 22 v)) (z : T (erases v)) (s : Session)
   -- the run after it: what was poured stands where it was put
   pub poured-does :
       (a : Written) (n at : ℕ) (d e : List ℕ) (t : Session) →
-      Writes (pourMade v s) room a room′ →
+      Writes (pourMade (voiceWith v) s) room a room′ →
       a ≡ written.Octets n →
-      t ≡ afterPour s a →
+      t ≡ afterPour holdingShape s a →
       Put d at (take n room′) e →
       Does (pouring v s) at d (record { session = t; octets = at + n }) e
   unfolding afterPour
   poured-does a n at d e t x q y p =
       let b = pours-some a n x q in
-      rw (b .step) (record { session = y ∙ ap (afterPour s) q; counted = ap (λ (i : ℕ). at + i) (b .count); written = p })
+      rw (b .step) (record { session = y ∙ ap (afterPour holdingShape s) q; counted = ap (λ (i : ℕ). at + i) (b .count); written = p })
 
 -- ---- the run over the packets, one after the other
 module _ (kind : Kind) (s : Session) (at : ℕ) (d : List ℕ) where

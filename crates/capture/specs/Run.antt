@@ -8,6 +8,7 @@ use lib.Dec.{eqb}
 use Rattle.octets.specs.Octets.{over}
 use Rattle.frame.specs.declared.Vocoder.{Vocoder}
 use Rattle.frame.specs.FrameTable.{FrameTable}
+use Rattle.frame.specs.Shape.{holdingShape, voiceWith}
 use Rattle.answers.specs.Answers.{numberOf}
 use Rattle.answers.specs.Outputs.{Made, octets, refusedOutput, writtenOf, outAfter}
 use Rattle.form.specs.declared.Form.{Form}
@@ -47,12 +48,12 @@ captureKind = kindOf captureVocoder
 
 -- "The session takes the first packet's source"
 unfoldable pub firstSession : List Heard → Session
-firstSession [] = neverOpened
-firstSession (h ∷ hs) = fresh (h .source) captureForm
+firstSession [] = neverOpened holdingShape
+firstSession (h ∷ hs) = fresh holdingShape (h .source) captureForm
 
 -- a packet of the capture, offered with its own numbers
 unfoldable pub offeredTo : FrameTable → Session → Heard → Offered
-offeredTo v s h = offered v s (h .source) (h .sequence) (h .timestamp) (h .payload)
+offeredTo table s h = offered (voiceWith table) s (h .source) (h .sequence) (h .timestamp) (h .payload)
 
 -- "reported lost frames become entries 0E"; a refusal "skips the packet"
 unfoldable pub takenOf : Kind → Session → Session → Taken → Step
@@ -70,12 +71,12 @@ offering kind s h = takenOf kind s (offeredTo (kind .table) s h .session) (offer
 
 -- the held group poured, if there is one
 unfoldable pub pouredOf : Session → Made → Step
-pouredOf s (octets w) = record { session = ended s; octets = w }
+pouredOf s (octets w) = record { session = ended holdingShape s; octets = w }
 pouredOf s (refusedOutput r) = record { session = s; octets = [] }
 
 -- the step that pouring is: the group's entries, and the session after it
 unfoldable pub pouring : FrameTable → Session → Step
-pouring v s = pouredOf s (pourMade v s)
+pouring table s = pouredOf s (pourMade (voiceWith table) s)
 
 -- "on 12": the answer that tells of a later group
 unfoldable pub isTwelve : Taken → Bool

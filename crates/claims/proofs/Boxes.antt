@@ -5,7 +5,7 @@ use mathlib.Core.List.{List, [], _∷_}
 use mathlib.Core.Bool.{Bool, true, false, cond, _||_}
 use mathlib.Core.Logic.{_⊎_, ⊎-elim, inl, inr}
 use Rattle.octets.proofs.Logic.{apart}
-use Rattle.frame.specs.FrameTable.{FrameTable}
+use Rattle.frame.specs.Shape.{Voice, packetsOf}
 use Rattle.form.specs.declared.Form.{Form}
 use Rattle.holding.specs.declared.Holding.{Holding}
 use Rattle.joining.proofs.Heads.{SameHead, head-group, head-trans, head-sym}
@@ -16,7 +16,7 @@ use Rattle.claims.specs.Boxes.{offeredTo, BoxesJoin}
 use Rattle.claims.proofs.Joinings.{some-box, done-sum, else-they-join, nothing-lost, nothing-invented, equal-knowledge}
 use Rattle.claims.proofs.Demand3.{known-as}
 
-module _ (v : FrameTable) (form : Form) (g : Sent v form) where
+module _ (v : Voice) (form : Form) (g : Sent v form) where
   -- a part that holds a packet knows it as it was sent
   part-held : (h : Holding) (ns : List ℕ) (n : ℕ) → knownOf v h n ≡ knowledge g ns n → knownOf v h n .held ≡ true → knownOf v h n ≡ sentPacket g n
   part-held h ns n k e = go (among n ns) k (sym (ap (λ (w : Known). w .held) k) ∙ e)
@@ -59,7 +59,7 @@ none-offered n parts (x ∷ hs) h i e =
     neither true t q = apart (cc)
     neither false t q = (refl, q)
 
-module _ (v : FrameTable) (form : Form) (g : Sent v form) (w : Way) (parts : Holding → List ℕ) (p : (h : Holding) → Among h (boxes w) → Part h g (parts h)) where
+module _ (v : Voice) (form : Form) (g : Sent v form) (w : Way) (parts : Holding → List ℕ) (p : (h : Holding) → Among h (boxes w) → Part h g (parts h)) where
   one-group : OneGroup v (boxes w)
   one-group = record {
     each = λ h i. p h i .box;
@@ -74,7 +74,7 @@ module _ (v : FrameTable) (form : Form) (g : Sent v form) (w : Way) (parts : Hol
       as-sent h k e = part-held v form g h (parts h) (d .packet) (p h k .knows (d .packet) (d .below)) e
 
   -- what is known of all: the packets that some box was offered
-  knows-all : (all : Holding) → outcome v w ≡ done all → (n : ℕ) → n < 8 → knownOf v all n ≡ cond (offeredTo n parts (boxes w)) (sentPacket g n) unheard
+  knows-all : (all : Holding) → outcome v w ≡ done all → (n : ℕ) → n < packetsOf (v .shape) → knownOf v all n ≡ cond (offeredTo n parts (boxes w)) (sentPacket g n) unheard
   unfolding NothingLost NothingInvented
   knows-all all q n k = go (offeredTo n parts (boxes w)) refl
     where

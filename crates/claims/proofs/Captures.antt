@@ -5,7 +5,7 @@ use mathlib.Core.List.{List, [], _∷_, _++_, map, append-nil}
 use mathlib.Core.Bool.{Bool, true, false, cond}
 use lib.Dec.{eqb}
 use borrow.Author.Tests.{eq-eqb}
-use Rattle.frame.specs.FrameTable.{FrameTable}
+use Rattle.frame.specs.Shape.{Voice, holdingShape, voiceWith}
 use Rattle.entries.specs.Kind.{Kind}
 use Rattle.answers.specs.Outputs.{octets}
 use Rattle.frame.specs.Places.{upTo}
@@ -34,7 +34,7 @@ use Rattle.claims.proofs.Sessions.{fresh-open}
 -- ---- another source leaves no trace
 other-step : (kind : Kind) (s : Session) (h : Heard) → eqb (h .source) (s .source) ≡ false → stepOf kind s h ≡ record { session = s; octets = [] }
 unfolding stepOf offering takenOf isTwelve offeredTo offered received refuse
-other-step kind s h e = rw e (go (isOpen (kind .table) s))
+other-step kind s h e = rw e (go (isOpen (voiceWith (kind .table)) s))
   where
     go :
         (b : Bool) →
@@ -62,7 +62,7 @@ from-source kind s x q (h ∷ hs) = go (λ (t : Session) (e : t .source ≡ x). 
 pub first-source-alone : FirstSourceAlone
 unfolding FirstSourceAlone entriesRecorded firstSession fresh vacant
 first-source-alone kind h hs =
-    let s = fresh (h .source) captureForm in
+    let s = fresh holdingShape (h .source) captureForm in
     let e : eqb (h .source) (h .source) ≡ true = eq-eqb (h .source) (h .source) refl in
     let f : fromSource (h .source) (h ∷ hs) ≡ h ∷ fromSource (h .source) hs = simp e in
     ap (λ (a : Step). andThen a (pouring (kind .table)) .octets) (from-source kind s (h .source) refl (h ∷ hs) ∙ ap (runOf kind s) f)
@@ -86,31 +86,38 @@ taken-step : (kind : Kind) (s : Session) (h : Heard) → offeredTo (kind .table)
 unfolding stepOf offering takenOf isTwelve
 taken-step kind s h e = rw e
 
-all-taken : (kind : Kind) {form : Form} (g : Sent (kind .table) form) (s : Session) (ns : List ℕ) → AllAccepted s g 0 ns →
+all-taken : (kind : Kind) {form : Form} (g : Sent (voiceWith (kind .table)) form) (s : Session) (ns : List ℕ) → AllAccepted s g 0 ns →
     runOf kind s (map (heardOf g) ns) ≡ record { session = offerAll s g ns; octets = [] }
 unfolding runOf andThen offerAll AllAccepted offeredTo
 all-taken kind g s [] x = refl
 all-taken kind g s (n ∷ ns) x = rw (taken-step kind s (heardOf g n) (x .0)) (all-taken kind g (offerOne s g n .session) ns (x .1))
 
 -- a session that takes the group's source is ready for it
-first-ready : {v : FrameTable} (g : Sent v captureForm) → Ready (fresh (g .source) captureForm) g
+first-ready : {v : Voice} (g : Sent v captureForm) → Ready (fresh (v .shape) (g .source) captureForm) g
 unfolding fresh vacant captureForm formRight groupBefore decided
-first-ready {v} g = record { opened = fresh-open v (g .source) captureForm refl; for-source = refl; in-form = refl; vacant = nothing-is; reported = 0; would-begin = simp nothing-is }
+first-ready {v} g = record {
+  opened = fresh-open v (g .source) captureForm refl;
+  for-source = refl;
+  in-form = refl;
+  vacant = nothing-is (v .shape);
+  reported = 0;
+  would-begin = simp (nothing-is (v .shape));
+}
 
-accepted-as : {v : FrameTable} {form : Form} (g : Sent v form) (s : Session) (m k : ℕ) (ns : List ℕ) → m ≡ k → AllAccepted s g m ns → AllAccepted s g k ns
+accepted-as : {v : Voice} {form : Form} (g : Sent v form) (s : Session) (m k : ℕ) (ns : List ℕ) → m ≡ k → AllAccepted s g m ns → AllAccepted s g k ns
 accepted-as g s m k ns e x = rw (← e) x
 
 pub group-is-recorded : GroupIsRecorded
 unfolding GroupIsRecorded Demand3 captureRecording entriesRecorded andThen firstSession pouring pouredOf fresh vacant
 group-is-recorded kind r g n ns h c e =
-    let s = fresh (g .source) captureForm in
-    let d = demand-3 (kind .table) r captureForm g s (first-ready g) n ns h in
+    let s = fresh holdingShape (g .source) captureForm in
+    let d = demand-3 (voiceWith (kind .table)) r captureForm g s (first-ready g) n ns h in
     let t = offerAll s g (n ∷ ns) in
-    let z : lostBefore s (sentNumbers g) ≡ 0 = simp nothing-is in
-    let x = accepted-as g s (lostBefore s (sentNumbers g)) 0 (n ∷ ns) z (d .accepted) in
+    let z : lostBefore holdingShape s (sentNumbers g) ≡ 0 = simp (nothing-is holdingShape) in
+    let x = accepted-as g s (lostBefore holdingShape s (sentNumbers g)) 0 (n ∷ ns) z (d .accepted) in
     let y = all-taken kind g s (n ∷ ns) x in
     record {
-      frames = inTime (kind .table) (t .group);
+      frames = inTime (voiceWith (kind .table)) (t .group);
       behind-opening = rw (e, y, d .poured);
       count = d .places .count;
       original = d .places .original;

@@ -8,7 +8,8 @@ use lib.Dec.{eqb}
 use lib.ListN.{length}
 use borrow.Author.Tests.{eq-eqb, eqb-true, eqb-false}
 use Rattle.octets.proofs.Logic.{both-true}
-use Rattle.frame.specs.FrameTable.{FrameTable, Frame, AllListed, Listed}
+use Rattle.frame.specs.FrameTable.{Frame, AllListed, Listed}
+use Rattle.frame.specs.Shape.{Voice, packetsOf}
 use Rattle.frame.specs.Places.{frameAt}
 use Rattle.form.specs.declared.Form.{Form}
 use Rattle.answers.specs.declared.Refusal.the-variants.{PacketDiffers}
@@ -47,40 +48,41 @@ use Rattle.claims.proofs.Joinings.{every-place-in-time}
 use Rattle.claims.proofs.Sessions.{lost-frames-by-formula, entries-length}
 
 -- ---- the base numbers of a packet that was numbered and stamped
-base-back : (s n : ℕ) → s < 65536 → n < 8 → baseSequence ((s + n) % 65536) n ≡ s
-base-back s n h k = omega arith
+base-back : (s n : ℕ) → s < 65536 → baseSequence ((s + n) % 65536) n ≡ s
+base-back s n h = omega arith
 
-time-back : (t n : ℕ) → t < 4294967296 → n < 8 → baseTimestamp ((t + 160 * n) % 4294967296) n ≡ t
-time-back t n h k = omega arith
+time-back : (t n : ℕ) → t < 4294967296 → baseTimestamp ((t + 160 * n) % 4294967296) n ≡ t
+time-back t n h = omega arith
 
 no-distance : (a : ℕ) → a < 65536 → minus 16 a a ≡ 0
 no-distance a h = omega arith
 
 -- what is known of packet n goes by whether it was offered
-pub known-as : {v : FrameTable} {form : Form} (g : Sent v form) (n : ℕ) {s t : Bool} → s ≡ t → cond s (sentPacket g n) unheard ≡ cond t (sentPacket g n) unheard
+pub known-as : {v : Voice} {form : Form} (g : Sent v form) (n : ℕ) {s t : Bool} → s ≡ t → cond s (sentPacket g n) unheard ≡ cond t (sentPacket g n) unheard
 known-as g n e = ap (λ (t : Bool). cond t (sentPacket g n) unheard) e
 
 -- ---- a packet is offered
-module _ (v : FrameTable) (s : Session) (source sequence timestamp l n d : ℕ) (fs : List Frame) (p : List ℕ) where
-  offer-read : isOpen v s ≡ true → s .source ≡ source → readAs v (s .form) p ≡ packet l n d fs → offered v s source sequence timestamp p ≡ placed s (arrival sequence timestamp l n fs)
+module _ (v : Voice) (s : Session) (source sequence timestamp l n d : ℕ) (fs : List Frame) (p : List ℕ) where
+  offer-read : isOpen v s ≡ true → s .source ≡ source → readAs (v .table) (s .form) p ≡ packet l n d fs
+      → offered v s source sequence timestamp p ≡ placed (v .shape) s (arrival (v .shape) sequence timestamp l n fs)
   unfolding offered received judged
   offer-read o e r = simp (o, eq-eqb source (s .source) (sym e), r)
 
 -- ---- a holding that holds a packet is not that of nothing
-pub some-held : (v : FrameTable) (h : Holding) → Box v h → isNothing h ≡ false
+pub some-held : (v : Voice) (h : Holding) → Box v h → isNothing (v .shape) h ≡ false
 some-held v h x = sound-something v h (box-sound v h x)
 
 -- ---- a session with another group held stays open
-open-with : (v : FrameTable) (s : Session) (h : Holding) → isOpen v s ≡ true → Box v h → h .source ≡ s .source → isOpen v (withGroup s h) ≡ true
+open-with : (v : Voice) (s : Session) (h : Holding) → isOpen v s ≡ true → Box v h → h .source ≡ s .source → isOpen v (withGroup s h) ≡ true
 unfolding isOpen withGroup groupRight lastRight
 open-with v s h o x e =
-    let p = both-true (s .«open») (formRight (s .form) && (lastRight s && groupRight v s)) o in
-    let q = both-true (formRight (s .form)) (lastRight s && groupRight v s) (p .1) in
-    let r = both-true (lastRight s) (groupRight v s) (q .1) in
+    let p = both-true (s .«open») (formRight (s .form) && (lastRight (v .shape) s && groupRight v s)) o in
+    let q = both-true (formRight (s .form)) (lastRight (v .shape) s && groupRight v s) (p .1) in
+    let r = both-true (lastRight (v .shape) s) (groupRight v s) (q .1) in
     simp (p .0, q .0, r .0, some-held v h x, x .some, eq-eqb (h .source) (s .source) e)
 
 -- the packets offered, named in another order
-exactly-as : {v : FrameTable} {form : Form} (s : Session) (g : Sent v form) (ds es : List ℕ) → ((i : ℕ) → among i ds ≡ among i es) → HoldsExactly s g ds → HoldsExactly s g es
+exactly-as : {v : Voice} {form : Form} (s : Session) (g : Sent v form) (ds es : List ℕ) → ((i : ℕ) → among i ds ≡ among i es) → HoldsExactly s g ds → HoldsExactly s g es
 exactly-as s g ds es h x =
     record {
       still-open = x .still-open;
@@ -94,12 +96,12 @@ exactly-as s g ds es h x =
     }
 
 -- what one more offer does
-record OneMore {v : FrameTable} {form : Form} (s : Session) (g : Sent v form) (n : ℕ) (ds : List ℕ) : Type 0 where
+record OneMore {v : Voice} {form : Form} (s : Session) (g : Sent v form) (n : ℕ) (ds : List ℕ) : Type 0 where
   told : offerOne s g n .answer ≡ Accepted 0
   after : HoldsExactly (offerOne s g n .session) g (n ∷ ds)
 
 -- ---- packet n is offered to a session that holds the group
-module _ (v : FrameTable) (m : HasRoom v) (form : Form) (g : Sent v form) (n : ℕ) (le : n ≤ g .l) where
+module _ (v : Voice) (m : HasRoom v) (form : Form) (g : Sent v form) (n : ℕ) (le : n ≤ g .l) where
   abbrev ours : List Frame
   ours = packetFrames (g .l) n (g .b) (g .frames)
 
@@ -109,25 +111,26 @@ module _ (v : FrameTable) (m : HasRoom v) (form : Form) (g : Sent v form) (n : �
   abbrev stamped : ℕ
   stamped = (g .timestamp + 160 * n) % 4294967296
 
-  small : n < 8
+  small : n < packetsOf (v .shape)
   small = omega (arith, g .low)
 
   ours-many : length ours ≡ g .b
   ours-many = length-packet (g .l) n (g .b) (g .frames)
 
-  ours-listed : AllListed v ours
-  ours-listed = packet-every (Listed v) (g .l) n (g .b) (g .frames) (g .listed) le (omega (arith, g .many))
+  ours-listed : AllListed (v .table) ours
+  ours-listed = packet-every (Listed (v .table)) (g .l) n (g .b) (g .frames) (g .listed) le (omega (arith, g .many))
 
   base-is : baseSequence numbered n ≡ g .sequence
-  base-is = base-back (g .sequence) n (g .sequence-fits) small
+  base-is = base-back (g .sequence) n (g .sequence-fits)
 
   time-is : baseTimestamp stamped n ≡ g .timestamp
-  time-is = time-back (g .timestamp) n (g .timestamp-fits) small
+  time-is = time-back (g .timestamp) n (g .timestamp-fits)
 
   -- packet n put into a holding with the group's numbers that knows these packets
-  put-part : (h : Holding) → Keeps v h → OfGroup h g → (ds : List ℕ) → ((i : ℕ) → i < 8 → knownOf v h i ≡ knowledge g ds i) → Part (withPacket h n (laid ours)) g (n ∷ ds)
+  put-part : (h : Holding) → Keeps v h → OfGroup h g → (ds : List ℕ) → ((i : ℕ) → i < packetsOf (v .shape) → knownOf v h i ≡ knowledge g ds i)
+      → Part (withPacket (v .shape) h n (laid (v .shape) ours)) g (n ∷ ds)
   put-part h k o ds kn =
-      let hd = with-head h n (laid ours) in
+      let hd = with-head (v .shape) h n (laid (v .shape) ours) in
       record {
         box = put-box v (m .short) (m .erasing) h k n in-h ours many-h ours-listed;
         of-group = record {
@@ -146,21 +149,21 @@ module _ (v : FrameTable) (m : HasRoom v) (form : Form) (g : Sent v form) (n : �
       many-h : length ours ≡ h .b
       many-h = ours-many ∙ sym (o .same-bundle)
 
-      go : (i : ℕ) → i < 8 → (t : Bool) → eqb i n ≡ t → knownOf v (withPacket h n (laid ours)) i ≡ cond (t || among i ds) (sentPacket g i) unheard
+      go : (i : ℕ) → i < packetsOf (v .shape) → (t : Bool) → eqb i n ≡ t → knownOf v (withPacket (v .shape) h n (laid (v .shape) ours)) i ≡ cond (t || among i ds) (sentPacket g i) unheard
       go i l true e =
           let q : i ≡ n = eqb-true i n e in
-          subst (λ (j : ℕ). knownOf v (withPacket h n (laid ours)) j ≡ sentPacket g j) (sym q)
+          subst (λ (j : ℕ). knownOf v (withPacket (v .shape) h n (laid (v .shape) ours)) j ≡ sentPacket g j) (sym q)
           (put-knows v (m .short) (m .erasing) h k n in-h ours many-h ours-listed (sentPacket g n) refl refl)
       go i l false e = put-others v (m .short) (m .erasing) h k n in-h ours many-h ours-listed i (eqb-false i n e) ∙ kn i l
 
   -- what becomes of it: the same again, or put in
   module _ (s : Session) (ds : List ℕ) (x : HoldsExactly s g ds) where
-    in-place : offerOne s g n ≡ belongs s (arrival numbered stamped (g .l) n ours)
+    in-place : offerOne s g n ≡ belongs (v .shape) s (arrival (v .shape) numbered stamped (g .l) n ours)
     unfolding placed groupBefore decided withHeld atDistance differ numbersOf placedBy arrival
     in-place =
         let h = s .group in
         let o = x .part .of-group in
-        let r : readAs v (s .form) (g .payload n) ≡ packet (g .l) n (g .d n) ours = rw (x .in-form) (g .read n le) in
+        let r : readAs (v .table) (s .form) (g .payload n) ≡ packet (g .l) n (g .d n) ours = rw (x .in-form) (g .read n le) in
         let z : minus 16 (baseSequence numbered n) (h .sequence) ≡ 0 = rw (base-is, o .base) (no-distance (g .sequence) (g .sequence-fits)) in
         let same-l = eq-eqb (g .l) (h .l) (sym (o .same-length)) in
         let same-b = eq-eqb (length ours) (h .b) (ours-many ∙ sym (o .same-bundle)) in
@@ -169,9 +172,9 @@ module _ (v : FrameTable) (m : HasRoom v) (form : Form) (g : Sent v form) (n : �
         ∙ simp (some-held v h (x .part .box), z, same-l, same-b, same-time)
 
     by-held :
-        belongs s (arrival numbered stamped (g .l) n ours)
-        ≡ cond (heldAt (s .group) n) (cond (sameBundles (bundleAt (s .group) n) (laid ours)) (accept s 0) (refuse s PacketDiffers))
-        (accept (withGroup s (withPacket (s .group) n (laid ours))) 0)
+        belongs (v .shape) s (arrival (v .shape) numbered stamped (g .l) n ours)
+        ≡ cond (heldAt (s .group) n) (cond (sameBundles (bundleAt (v .shape) (s .group) n) (laid (v .shape) ours)) (accept s 0) (refuse s PacketDiffers))
+        (accept (withGroup s (withPacket (v .shape) (s .group) n (laid (v .shape) ours))) 0)
     unfolding belongs arrival
     by-held = refl
 
@@ -179,27 +182,27 @@ module _ (v : FrameTable) (m : HasRoom v) (form : Form) (g : Sent v form) (n : �
     again : among n ds ≡ true → offerOne s g n ≡ accept s 0
     unfolding cell
     again e =
-        let c : cell (s .group) n ≡ cellFor (sentPacket g n) =
-        cell-known v (m .short) (m .erasing) (s .group) (x .part .box) n small ∙ ap cellFor (x .part .knows n small ∙ known-as g n e) in
+        let c : cell (v .shape) (s .group) n ≡ cellFor (v .shape) (sentPacket g n) =
+        cell-known v (m .short) (m .erasing) (s .group) (x .part .box) n small ∙ ap (cellFor (v .shape)) (x .part .knows n small ∙ known-as g n e) in
         let t : heldAt (s .group) n ≡ true = ap (λ (y : Cell). y .0) c in
-        let p : bundleAt (s .group) n ≡ laid ours = ap (λ (y : Cell). y .1) c in
-        let q : sameBundles (bundleAt (s .group) n) (laid ours) ≡ true = rw p (packets-refl (laid ours)) in
+        let p : bundleAt (v .shape) (s .group) n ≡ laid (v .shape) ours = ap (λ (y : Cell). y .1) c in
+        let q : sameBundles (bundleAt (v .shape) (s .group) n) (laid (v .shape) ours) ≡ true = rw p (packets-refl (laid (v .shape) ours)) in
         in-place ∙ by-held ∙ rw (t, q)
 
     -- not held yet
-    added : among n ds ≡ false → offerOne s g n ≡ accept (withGroup s (withPacket (s .group) n (laid ours))) 0
+    added : among n ds ≡ false → offerOne s g n ≡ accept (withGroup s (withPacket (v .shape) (s .group) n (laid (v .shape) ours))) 0
     added e =
         let t : heldAt (s .group) n ≡ false = sym (known-held v (s .group) n) ∙ ap (λ (k : Known). k .held) (x .part .knows n small ∙ known-as g n e) in
         in-place ∙ by-held ∙ rw t
 
     -- ---- the session after it
-    after-put : HoldsExactly (withGroup s (withPacket (s .group) n (laid ours))) g (n ∷ ds)
+    after-put : HoldsExactly (withGroup s (withPacket (v .shape) (s .group) n (laid (v .shape) ours))) g (n ∷ ds)
     unfolding withGroup
     after-put =
         let h = s .group in
         let q = put-part h (record { shaped = x .part .box .shaped; rule = holds-sound v h (x .part .box .some) .0 }) (x .part .of-group) ds (x .part .knows) in
         record {
-          still-open = open-with v s (withPacket h n (laid ours)) (x .still-open) (q .box) (q .of-group .of-source ∙ sym (x .for-source));
+          still-open = open-with v s (withPacket (v .shape) h n (laid (v .shape) ours)) (x .still-open) (q .box) (q .of-group .of-source ∙ sym (x .for-source));
           for-source = x .for-source;
           in-form = x .in-form;
           part = q;
@@ -230,11 +233,11 @@ abbrev spread : List ℕ → List ℕ → List ℕ
 spread ds [] = ds
 spread ds (n ∷ ns) = spread (n ∷ ds) ns
 
-record More {v : FrameTable} {form : Form} (s : Session) (g : Sent v form) (ds ns : List ℕ) : Type 0 where
+record More {v : Voice} {form : Form} (s : Session) (g : Sent v form) (ds ns : List ℕ) : Type 0 where
   told : AllAccepted s g 0 ns
   after : HoldsExactly (offerAll s g ns) g (spread ds ns)
 
-offers : (v : FrameTable) → HasRoom v → (form : Form) (g : Sent v form) (s : Session) (ds ns : List ℕ) → HoldsExactly s g ds → Within (g .l) ns → More s g ds ns
+offers : (v : Voice) → HasRoom v → (form : Form) (g : Sent v form) (s : Session) (ds ns : List ℕ) → HoldsExactly s g ds → Within (g .l) ns → More s g ds ns
 unfolding AllAccepted offerAll
 offers v m form g s ds [] x w = record { told = tt; after = x }
 offers v m form g s ds (n ∷ ns) x w =
@@ -243,22 +246,22 @@ offers v m form g s ds (n ∷ ns) x w =
     record { told = (o .told, r .told); after = r .after }
 
 -- ---- the first packet begins the group
-record First {v : FrameTable} {form : Form} (s : Session) (g : Sent v form) (n : ℕ) : Type 0 where
-  told : offerOne s g n .answer ≡ Accepted (lostBefore s (sentNumbers g))
+record First {v : Voice} {form : Form} (s : Session) (g : Sent v form) (n : ℕ) : Type 0 where
+  told : offerOne s g n .answer ≡ Accepted (lostBefore (v .shape) s (sentNumbers g))
   after : HoldsExactly (offerOne s g n .session) g (n ∷ [])
 
-module _ (v : FrameTable) (m : HasRoom v) (form : Form) (g : Sent v form) (n : ℕ) (le : n ≤ g .l) (s : Session) (y : Ready s g) where
+module _ (v : Voice) (m : HasRoom v) (form : Form) (g : Sent v form) (n : ℕ) (le : n ≤ g .l) (s : Session) (y : Ready s g) where
   abbrev mine : List Frame
   mine = packetFrames (g .l) n (g .b) (g .frames)
 
   abbrev none : Holding
-  none = begun (g .source) (g .sequence) (g .timestamp) (g .l) (g .b)
+  none = begun (v .shape) (g .source) (sentNumbers g)
 
   abbrev first : Holding
-  first = withPacket none n (laid mine)
+  first = withPacket (v .shape) none n (laid (v .shape) mine)
 
   abbrev came : Arrival
-  came = arrival ((g .sequence + n) % 65536) ((g .timestamp + 160 * n) % 4294967296) (g .l) n mine
+  came = arrival (v .shape) ((g .sequence + n) % 65536) ((g .timestamp + 160 * n) % 4294967296) (g .l) n mine
 
   came-numbers : came .numbers ≡ sentNumbers g
   unfolding arrival
@@ -268,28 +271,28 @@ module _ (v : FrameTable) (m : HasRoom v) (form : Form) (g : Sent v form) (n : �
           → _≡_ {A = GroupNumbers} (record { sequence = q; timestamp = t; l = l; b = b }) (record { sequence = q′; timestamp = t′; l = l; b = b′ })
       same i j k = cc
 
-  was-read : readAs v (s .form) (g .payload n) ≡ packet (g .l) n (g .d n) mine
+  was-read : readAs (v .table) (s .form) (g .payload n) ≡ packet (g .l) n (g .d n) mine
   was-read = rw (y .in-form) (g .read n le)
 
-  begun-first : offerOne s g n ≡ begins s came (y .reported)
+  begun-first : offerOne s g n ≡ begins (v .shape) s came (y .reported)
   unfolding placed placedBy
   begun-first =
       offer-read v s (g .source) _ _ (g .l) n (g .d n) mine (g .payload n) (y .opened) (y .for-source) was-read
-      ∙ ap (placedBy s came) (ap (decided (groupBefore s)) came-numbers ∙ y .would-begin)
+      ∙ ap (placedBy (v .shape) s came) (ap (decided (groupBefore (v .shape) s)) came-numbers ∙ y .would-begin)
 
-  begins-so : (k : ℕ) → begins s came k ≡ accept (withGroup s first) k
+  begins-so : (k : ℕ) → begins (v .shape) s came k ≡ accept (withGroup s first) k
   unfolding begins arrival
   begins-so k = rw (y .for-source, base-is v m form g n le, time-is v m form g n le, ours-many v m form g n le)
 
-  reported-is : y .reported ≡ lostBefore s (sentNumbers g)
+  reported-is : y .reported ≡ lostBefore (v .shape) s (sentNumbers g)
   unfolding LostFramesByFormula accept
   reported-is =
       let told : offerOne s g n .answer ≡ Accepted (y .reported) = ap (λ (z : Offered). z .answer) (begun-first ∙ begins-so (y .reported)) in
-      lost-frames-by-formula v s (g .source) _ _ (g .payload n) (g .l) n (g .d n) mine was-read (y .reported) told ∙ ap (lostBefore s) came-numbers
+      lost-frames-by-formula v s (g .source) _ _ (g .payload n) (g .l) n (g .d n) mine was-read (y .reported) told ∙ ap (lostBefore (v .shape) s) came-numbers
 
-  none-known : (i : ℕ) → i < 8 → knownOf v none i ≡ unheard
+  none-known : (i : ℕ) → i < packetsOf (v .shape) → knownOf v none i ≡ unheard
   unfolding knownOf told
-  none-known i k = rw (begun-lost (g .source) (g .sequence) (g .timestamp) (g .l) (g .b) i k)
+  none-known i k = rw (begun-lost v (g .source) (sentNumbers g) i k)
 
   none-of : OfGroup none g
   unfolding begun
@@ -298,7 +301,7 @@ module _ (v : FrameTable) (m : HasRoom v) (form : Form) (g : Sent v form) (n : �
   first-exactly : HoldsExactly (withGroup s first) g (n ∷ [])
   unfolding withGroup
   first-exactly =
-      let k = begun-keeps (g .source) (g .sequence) (g .timestamp) (g .l) (g .b) v (g .low) (g .some) (g .few) in
+      let k = begun-keeps v (g .source) (sentNumbers g) (g .low) (g .some) (g .few) in
       let q = put-part v m form g n le none k none-of [] none-known in
       record {
         still-open = open-with v s first (y .opened) (q .box) (q .of-group .of-source ∙ sym (y .for-source));
@@ -310,7 +313,7 @@ module _ (v : FrameTable) (m : HasRoom v) (form : Form) (g : Sent v form) (n : �
   begins-group : First s g n
   unfolding accept
   begins-group =
-      let o : offerOne s g n ≡ accept (withGroup s first) (lostBefore s (sentNumbers g)) = begun-first ∙ begins-so (y .reported) ∙ ap (accept (withGroup s first)) reported-is in
+      let o : offerOne s g n ≡ accept (withGroup s first) (lostBefore (v .shape) s (sentNumbers g)) = begun-first ∙ begins-so (y .reported) ∙ ap (accept (withGroup s first)) reported-is in
       record { told = ap (λ (z : Offered). z .answer) o; after = subst (λ (z : Session). HoldsExactly z g (n ∷ [])) (sym (ap (λ (z : Offered). z .session) o)) first-exactly }
 
 -- ---- the demand
@@ -330,7 +333,7 @@ spread-among : (i : ℕ) (ds ns : List ℕ) → among i (spread ds ns) ≡ among
 spread-among i ds [] = refl
 spread-among i ds (n ∷ ns) = spread-among i (n ∷ ds) ns ∙ or-assoc (among i ns) (eqb i n) (among i ds)
 
-pub places-of : (v : FrameTable) → HasRoom v → (form : Form) (s : Session) (g : Sent v form) (ns : List ℕ) → HoldsExactly s g ns → PouredPlaces s g ns
+pub places-of : (v : Voice) → HasRoom v → (form : Form) (s : Session) (g : Sent v form) (ns : List ℕ) → HoldsExactly s g ns → PouredPlaces s g ns
 unfolding EveryPlaceInTime
 places-of v m form s g ns x =
     let p = every-place-in-time v m (s .group) (x .part .box) in
@@ -347,7 +350,7 @@ places-of v m form s g ns x =
         ∙ ap (λ (w : Known). frameKnown w k) (x .part .knows n (omega (arith, g .low)))
 
 -- an open session pours its group's places
-pours : (v : FrameTable) → HasRoom v → (s : Session) → isOpen v s ≡ true → Box v (s .group) → pourMade v s ≡ octets (entriesOf (inTime v (s .group)))
+pours : (v : Voice) → HasRoom v → (s : Session) → isOpen v s ≡ true → Box v (s .group) → pourMade v s ≡ octets (entriesOf (inTime v (s .group)))
 unfolding EveryPlaceInTime pourMade
 pours v m s o x = rw o (every-place-in-time v m (s .group) x .entries)
 

@@ -50,6 +50,8 @@ determined = record {
   octetsPutFour = record { equal = by (only dst-lent) };
   refusalNumber = record { equal = by alone };
   frameRowOf = record { equal = by alone };
+  frameCellOf = record { equal = by alone };
+  framePacketsOf = record { equal = by alone };
   frameBodySize = record { equal = by alone };
   frameRowOfSize = record { equal = by alone };
   frameLowBits = record { equal = by alone };
@@ -72,6 +74,7 @@ determined = record {
   numbersDecide = record { equal = by alone };
   bundleNotHeld = record { equal = by alone };
   bundleSameBundles = record { equal = by alone };
+  bundleIsNotHeld = record { equal = by alone };
   bundleFramesRight = record { equal = by alone };
   payloadRead = record { equal = by alone };
   payloadLocate = record { equal = by alone };
@@ -94,7 +97,7 @@ determined = record {
   sessionOpen = record { equal = by alone };
   sessionIsOpen = record { equal = by alone };
   sessionOffer = record { equal = by alone };
-  sessionPour = record { equal = pours (afterPour _) poured };
+  sessionPour = record { equal = pours (afterPour _ _) poured };
   sessionCopyOut = record { equal = by alone };
   sessionEnd = record { equal = by alone };
   captureRoom = record { equal = by alone };

@@ -6,11 +6,11 @@ use Rattle.payload.specs.Payload.{toc, bodies, interleaved, oneBody, readAs}
 use Rattle.payload.specs.Shown.{givenOf, givenAs}
 use Rattle.numbers.specs.Place.{differ, atDistance, withHeld, afterGap, afterPoured, decided}
 use Rattle.octets.specs.Octets.{twoAt, fourAt, over, anySet, sameOctets, allZero, allBelow, region}
-use Rattle.holding.specs.Group.{nothing, begun, numbersOf, isNothing, bare, withPacket, heldAt, bundleAt, packetRight, rightAt, sound}
+use Rattle.holding.specs.Group.{nothing, begun, numbersOf, isNothing, bare, withPacket, heldAt, bundleOf, packetRight, rightAt, sound}
 use Rattle.holding.specs.Group.{holds}
-use Rattle.bundle.specs.Bundles.{sameBundles, notHeld, markAt, mayStand, frameRight, framesRight}
+use Rattle.bundle.specs.Bundles.{sameBundles, notHeld, markAt, frameOf, mayStand, frameRight, framesRight}
 use Rattle.bundle.specs.LaidOut.{laid, filled, rooms}
-use Rattle.pouring.specs.Pouring.{frameIn, row, rows, poured}
+use Rattle.pouring.specs.Pouring.{row, rows, poured}
 use Rattle.session.specs.Session.{vacant, fresh, formRight, lastRight, groupRight, isOpen, refuse, accept, withGroup, lastNumbers}
 use Rattle.session.specs.Session.{groupBefore, begins, belongs, placedBy, placed, arrival, judged, received, offered, pourMade, ended}
 use Rattle.capture.specs.Capture.{endFault, tableFault, countFault, faultOf, good, startAt, lengths, heardAt, packetsIn}
@@ -21,16 +21,16 @@ use Rattle.claims.specs.Examples.{MarkedExamples, P15, WholeCase}
 p15 : P15
 unfolding placed groupBefore decided withHeld atDistance numbersOf placedBy
 p15 = record {
-  later = λ s a h e. rw (h .some, h .base, e) (simp (h .length-one));
-  inside = λ s a h e. rw (h .some, h .base, e) (simp (h .length-one));
-  earlier = λ s a h e. rw (h .some, h .base, e) (simp (h .length-one));
+  later = λ u s a h e. rw (h .some, h .base, e) (simp (h .length-one));
+  inside = λ u s a h e. rw (h .some, h .base, e) (simp (h .length-one));
+  earlier = λ u s a h e. rw (h .some, h .base, e) (simp (h .length-one));
 }
 
 whole-case : WholeCase
 unfolding rowsOf rowOf toc bodies interleaved readAs differ atDistance withHeld afterGap afterPoured decided twoAt fourAt over
     anySet sameOctets allZero upTo nothing begun numbersOf isNothing bare withPacket sameBundles notHeld markAt
-    mayStand frameRight framesRight heldAt bundleAt packetRight rightAt sound holds allBelow region laid filled
-    rooms frameIn row rows poured vacant fresh formRight lastRight groupRight isOpen refuse accept withGroup
+    mayStand frameRight framesRight heldAt bundleOf packetRight rightAt sound holds allBelow region laid filled
+    rooms frameOf row rows poured vacant fresh formRight lastRight groupRight isOpen refuse accept withGroup
     lastNumbers groupBefore begins belongs placedBy placed arrival judged received offered pourMade ended endFault
     tableFault countFault faultOf good startAt lengths heardAt packetsIn captureForm firstSession offeredTo takenOf
     offering pouredOf pouring isTwelve stepOf runOf entriesRecorded captureRecording andThen

@@ -7,7 +7,7 @@ use native.Mathlib.Omega.{arith}
 use lib.Dec.{eqb}
 use borrow.Author.Tests.{eq-eqb, ne-eqb}
 use Rattle.octets.proofs.Logic.{apart}
-use Rattle.frame.specs.FrameTable.{FrameTable}
+use Rattle.frame.specs.Shape.{Voice}
 use Rattle.form.specs.declared.Form.{Form}
 use Rattle.packet.specs.Packet.{placeOf}
 use Rattle.holding.specs.Group.{isNothing}
@@ -22,20 +22,20 @@ use Rattle.claims.specs.Idle.{RefusesEverything, PoursErasures, StoresNo
 use Rattle.claims.proofs.Sessions.{octet-count-by-formula}
 use Rattle.claims.proofs.Demand3.{some-held}
 
-first-told : {v : FrameTable} {form : Form} (s : Session) (g : Sent v form) (n : ℕ) (ns : List ℕ) → Delivered s g n ns → offerOne s g n .answer ≡ Accepted (lostBefore s (sentNumbers g))
+first-told : {v : Voice} {form : Form} (s : Session) (g : Sent v form) (n : ℕ) (ns : List ℕ) → Delivered s g n ns → offerOne s g n .answer ≡ Accepted (lostBefore (v .shape) s (sentNumbers g))
 unfolding AllAccepted
 first-told s g n ns x = x .accepted .0
 
 pub refuses-everything : RefusesEverything
 unfolding RefusesEverything
 refuses-everything v form s g n ns x r e =
-    let z : Accepted (lostBefore s (sentNumbers g)) ≡ Refused r = sym (first-told s g n ns x) ∙ e in
+    let z : Accepted (lostBefore (v .shape) s (sentNumbers g)) ≡ Refused r = sym (first-told s g n ns x) ∙ e in
     apart (cc)
 
 pub invents-lost-frames : InventsLostFrames
 unfolding InventsLostFrames
 invents-lost-frames v form s g n ns x k e d =
-    let z : Accepted k ≡ Accepted (lostBefore s (sentNumbers g)) = sym e ∙ first-told s g n ns x in
+    let z : Accepted k ≡ Accepted (lostBefore (v .shape) s (sentNumbers g)) = sym e ∙ first-told s g n ns x in
     d (same z)
   where
     same : {a b : ℕ} → Accepted a ≡ Accepted b → a ≡ b
@@ -55,7 +55,7 @@ pours-erasures v form s g n ns x i a h =
 pub stores-nothing : StoresNothing
 unfolding StoresNothing
 stores-nothing v form s g n ns y x e =
-    let z : true ≡ false = sym (y .vacant) ∙ ap isNothing (sym e) ∙ some-held v (offerAll s g (n ∷ ns) .group) (x .exactly .part .box) in
+    let z : true ≡ false = sym (y .vacant) ∙ ap (isNothing (v .shape)) (sym e) ∙ some-held v (offerAll s g (n ∷ ns) .group) (x .exactly .part .box) in
     apart (cc)
 
 pub nods-at-later : NodsAtLater

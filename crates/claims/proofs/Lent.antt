@@ -8,10 +8,11 @@ use lib.Dec.{leb}
 use lib.ListN.{length, take, drop, length-take, take-append-drop}
 use borrow.Author.Tests.{leb-true}
 use Rattle.octets.specs.Octets.{over, sameOctets, anySet, twoAt, fourAt, twoOctets, fourOctets}
-use Rattle.frame.specs.FrameTable.{FrameTable}
+use Rattle.frame.specs.Shape.{Voice, holdingShape}
 use Rattle.octets.proofs.Logic.{apart}
 use Rattle.octets.proofs.OctetsLaws.{same-true}
-use Rattle.holding.specs.Group.{begun, nothing, holds, sound}
+use Rattle.holding.specs.Group.{begun, nothing}
+use Rattle.holding.proofs.GroupLaws.{nothing-held}
 use Rattle.holding.specs.declared.Holding.{Holding}
 use Rattle.pouring.specs.Pouring.{poured}
 use Rattle.session.specs.Session.{vacant, neverOpened, formRight, lastRight, groupRight, isOpen, refuse, accept, offered}
@@ -45,8 +46,8 @@ unfolding NoSessionTakesNothing sessionIn offered isOpen neverOpened vacant
 no-session-takes-nothing v o e source q t p = rw e
 
 pub no-holding-holds-nothing : NoHoldingHoldsNothing
-unfolding NoHoldingHoldsNothing holdingIn poured holds sound nothing begun anySet
-no-holding-holds-nothing v o e = rw e (refl, refl)
+unfolding NoHoldingHoldsNothing holdingIn poured
+no-holding-holds-nothing v o e = rw (e, nothing-held v holdingShape) (refl, refl)
 
 -- ---- octets that are as they would be laid out
 pub are-laid : (o w : List ℕ) → isLaid o w ≡ true → w ≡ take 2304 o
@@ -62,7 +63,7 @@ pub open-laid : (o : List ℕ) → sessionIn o .«open» ≡ true → isSession 
 unfolding sessionIn neverOpened vacant
 open-laid o e = go (isSession o) e
   where
-    go : (b : Bool) → cond b (sessionAt o) neverOpened .«open» ≡ true → b ≡ true
+    go : (b : Bool) → cond b (sessionAt o) (neverOpened holdingShape) .«open» ≡ true → b ≡ true
     go true q = refl
     go false q = apart (cc)
 
@@ -70,7 +71,7 @@ held-laid : (o : List ℕ) → anySet (holdingIn o .held) ≡ true → isHolding
 unfolding holdingIn nothing begun anySet
 held-laid o e = go (isHolding o) e
   where
-    go : (b : Bool) → anySet (cond b (holdingAt o 0) nothing .held) ≡ true → b ≡ true
+    go : (b : Bool) → anySet (cond b (holdingAt o 0) (nothing holdingShape) .held) ≡ true → b ≡ true
     go true q = refl
     go false q = apart (cc)
 
@@ -78,13 +79,13 @@ pub session-lays-back : SessionLaysBack
 unfolding SessionLaysBack sessionIn isSession
 session-lays-back o e =
     let l : isLaid o (sessionLaid (sessionAt o)) ≡ true = open-laid o e in
-    ap (λ (b : Bool). sessionLaid (cond b (sessionAt o) neverOpened)) l ∙ are-laid o (sessionLaid (sessionAt o)) l
+    ap (λ (b : Bool). sessionLaid (cond b (sessionAt o) (neverOpened holdingShape))) l ∙ are-laid o (sessionLaid (sessionAt o)) l
 
 pub holding-lays-back : HoldingLaysBack
 unfolding HoldingLaysBack holdingIn isHolding
 holding-lays-back o e =
     let l : isLaid o (holdingLaid (holdingAt o 0)) ≡ true = held-laid o e in
-    ap (λ (b : Bool). holdingLaid (cond b (holdingAt o 0) nothing)) l ∙ are-laid o (holdingLaid (holdingAt o 0)) l
+    ap (λ (b : Bool). holdingLaid (cond b (holdingAt o 0) (nothing holdingShape))) l ∙ are-laid o (holdingLaid (holdingAt o 0)) l
 
 pub equal-is-equal-octets : EqualIsEqualOctets
 unfolding SessionLaysBack HoldingLaysBack
@@ -111,7 +112,7 @@ over-same o h =
     ap (λ (i : ℕ). take 2304 o ++ drop i o) l ∙ take-append-drop 2304 o
 
 -- what is accepted was offered to an open session
-accepted-open : (v : FrameTable) (s : Session) (source q t : ℕ) (p : List ℕ) (lost : ℕ) → offered v s source q t p .answer ≡ taken.Accepted lost → s .«open» ≡ true
+accepted-open : (v : Voice) (s : Session) (source q t : ℕ) (p : List ℕ) (lost : ℕ) → offered v s source q t p .answer ≡ taken.Accepted lost → s .«open» ≡ true
 unfolding isOpen refuse
 accepted-open v s source q t p lost e = go (offered v s source q t p) (offer-ends v s source q t p) e
   where
@@ -121,9 +122,9 @@ accepted-open v s source q t p lost e = go (offered v s source q t p) (offer-end
 
     go : (o : Offered) → Ends v s source q t p o → o .answer ≡ taken.Accepted lost → s .«open» ≡ true
     go o (refuses r x) y = let z : taken.Refused r ≡ taken.Accepted lost = ap (λ (w : Offered). w .answer) (sym x) ∙ y in apart (cc)
-    go o (places x _ l n d fs _ _) y = first (s .«open») (formRight (s .form) && (lastRight s && groupRight v s)) x
+    go o (places x _ l n d fs _ _) y = first (s .«open») (formRight (s .form) && (lastRight (v .shape) s && groupRight v s)) x
 
-kept-octets : (v : FrameTable) (o : List ℕ) (source q t : ℕ) (p : List ℕ) → offered v (sessionIn o) source q t p .session ≡ sessionIn o → offerOctets v o source q t p ≡ o
+kept-octets : (v : Voice) (o : List ℕ) (source q t : ℕ) (p : List ℕ) → offered v (sessionIn o) source q t p .session ≡ sessionIn o → offerOctets v o source q t p ≡ o
 unfolding SessionLaysBack offerOctets offerAnswer layTaken isSession
 kept-octets v o source q t p e = go (offered v (sessionIn o) source q t p .answer) refl
   where

@@ -11,11 +11,11 @@ use Rattle.octets.specs.Octets.{over, shifted, sameOctets, twoAt, fourAt, twoOc
 use Rattle.octets.proofs.Logic.{apart}
 use Rattle.octets.proofs.OctetsLaws.{same-refl, in-first, in-second, octet-window, two-window, four-window, two-back, four-back}
 use Rattle.octets.proofs.OctetsLaws.{length-two, length-four}
-use Rattle.frame.specs.FrameTable.{FrameTable}
 use Rattle.answers.specs.declared.Refusal.the-variants.{NotApplicable}
 use Rattle.answers.specs.declared.Answer.the-variants as answer
 use Rattle.joining.proofs.Heads.{same-fields}
 use Rattle.holding.specs.declared.Holding.{Holding}
+use Rattle.frame.specs.Shape.{Shape, Voice, holdingShape}
 use Rattle.holding.specs.Group.{Shaped}
 use Rattle.form.specs.declared.Form.{Form}
 use Rattle.form.specs.declared.Form.the-variants.{HeaderFree, Interleaved}
@@ -48,7 +48,7 @@ types-back (t ∷ ts) h =
     ap₂ (λ (x : ℕ) (l : List ℕ). x ∷ l) e (types-back ts (h .1))
 
 -- ---- a holding: its pieces, by their windows
-module _ (h : Holding) (x : Shaped h) (z : AreOctets (h .marks)) where
+module _ (h : Holding) (x : Shaped holdingShape h) (z : AreOctets (h .marks)) where
   -- a window of the first twelve octets, and of those behind the first sixteen
   low : (k n : ℕ) → k + n ≤ 12 → take n (drop k (holdingOctets h)) ≡ take n (drop k (A h ++ B h ++ C h ++ D h))
   unfolding holdingOctets numberOctets
@@ -165,7 +165,7 @@ module _ (s : Session) where
         in-first (sessionHead s ++ H ++ replicate 400 0) rest k n (omega arith) ∙ in-first (sessionHead s ++ H) (replicate 400 0) k n (omega arith)
         ∙ in-first (sessionHead s) H k n (omega arith)
 
-    group-there : Shaped (s .group) → (k n : ℕ) → k + n ≤ 1872 → take n (drop (32 + k) all) ≡ take n (drop k (holdingOctets (s .group)))
+    group-there : Shaped holdingShape (s .group) → (k n : ℕ) → k + n ≤ 1872 → take n (drop (32 + k) all) ≡ take n (drop k (holdingOctets (s .group)))
     unfolding sessionLaid
     group-there x k n p =
         let H = holdingOctets (s .group) in
@@ -230,7 +230,7 @@ module _ (s : Session) where
             let z = last-zero e in
             (z .0 ∙ sym (n .0), (z .1 .0 ∙ sym (n .1 .0), z .1 .1 ∙ sym (n .1 .1)))
 
-    session-back : NoneRemembered s → Shaped (s .group) → AreOctets (s .group .marks) → s ≡ sessionAt all
+    session-back : NoneRemembered s → Shaped holdingShape (s .group) → AreOctets (s .group .marks) → s ≡ sessionAt all
     session-back none x z =
         let l = last-same none in
         session-read all s (sym (ap isSet is-open ∙ flag-back (s .«open»)))
@@ -251,7 +251,7 @@ there-laid w rest l =
     let y : sameOctets w (take 2304 (w ++ rest)) ≡ true = ap (sameOctets w) z ∙ same-refl w in
     simp (long-enough (w ++ rest) (omega arith), y)
 
-laid-at : (h : Holding) → Shaped h → AreOctets (h .marks) → (rest : List ℕ) → h ≡ holdingAt (holdingLaid h ++ rest) 0
+laid-at : (h : Holding) → Shaped holdingShape h → AreOctets (h .marks) → (rest : List ℕ) → h ≡ holdingAt (holdingLaid h ++ rest) 0
 unfolding holdingLaid
 laid-at h x z rest =
     let w = holdingOctets h ++ replicate 432 0 in
@@ -284,25 +284,26 @@ same-none : (s : Session) (h : Holding) → NoneRemembered s → NoneRemembered 
 unfolding NoneRemembered withGroup
 same-none s h n = n
 
-placed-none : (s : Session) (a : Arrival) (o : Offered) → NoneRemembered s → Placed s a o → NoneRemembered (o .session)
+placed-none : (u : Shape) (s : Session) (a : Arrival) (o : Offered) → NoneRemembered s → Placed u s a o → NoneRemembered (o .session)
 unfolding refuse accept begins
-placed-none s a o n (no r e) = rw e n
-placed-none s a o n (again q e) = rw e n
-placed-none s a o n (put q f g e) = rw e (same-none s _ n)
-placed-none s a o n (first q p e) = rw e (same-none s _ n)
-placed-none s a o n (next q p lost f h e) = rw e (same-none s _ n)
+placed-none u s a o n (no r e) = rw e n
+placed-none u s a o n (again q e) = rw e n
+placed-none u s a o n (put q f g e) = rw e (same-none s _ n)
+placed-none u s a o n (first q p e) = rw e (same-none s _ n)
+placed-none u s a o n (next q p lost f h e) = rw e (same-none s _ n)
 
-ends-none : (v : FrameTable) (s : Session) (source q t : ℕ) (p : List ℕ) (o : Offered) → NoneRemembered s → Ends v s source q t p o → NoneRemembered (o .session)
+ends-none : (v : Voice) (s : Session) (source q t : ℕ) (p : List ℕ) (o : Offered) → NoneRemembered s → Ends v s source q t p o → NoneRemembered (o .session)
 unfolding refuse
 ends-none v s source q t p o n (refuses r e) = rw e n
-ends-none v s source q t p o n (places x y l m d fs z w) = placed-none s _ o n w
+ends-none v s source q t p o n (places x y l m d fs z w) = placed-none (v .shape) s _ o n w
 
-opened-none : (source : ℕ) (form : Form) → NoneRemembered (openedFor neverOpened source form .session)
+opened-none : (source : ℕ) (form : Form) → NoneRemembered (openedFor holdingShape (neverOpened holdingShape) source form .session)
 unfolding openedFor neverOpened fresh vacant
 opened-none source form = go (formRight form)
   where
     go : (b : Bool) → NoneRemembered
-        (cond {A = Started} b (record { answer = answer.Done; session = fresh source form }) (record { answer = answer.Refused NotApplicable; session = neverOpened }) .session)
+        (cond {A = Started} b (record { answer = answer.Done; session = fresh holdingShape source form })
+        (record { answer = answer.Refused NotApplicable; session = neverOpened holdingShape }) .session)
     go true = zero-none _ refl refl refl
     go false = zero-none _ refl refl refl
 
@@ -318,11 +319,11 @@ lent-none : (o : List ℕ) → NoneRemembered (sessionIn o)
 unfolding sessionIn isSession neverOpened vacant
 lent-none o = go (isLaid o (sessionLaid (sessionAt o))) refl
   where
-    go : (b : Bool) → isLaid o (sessionLaid (sessionAt o)) ≡ b → NoneRemembered (cond b (sessionAt o) neverOpened)
+    go : (b : Bool) → isLaid o (sessionLaid (sessionAt o)) ≡ b → NoneRemembered (cond b (sessionAt o) (neverOpened holdingShape))
     go false e = zero-none _ refl refl refl
     go true e = laid-none o (are-laid o (sessionLaid (sessionAt o)) e)
 
-pours-none : (s : Session) → NoneRemembered (ended s)
+pours-none : (s : Session) → NoneRemembered (ended holdingShape s)
 unfolding NoneRemembered ended
 pours-none s e = apart (cc)
 

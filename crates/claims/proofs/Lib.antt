@@ -15,6 +15,7 @@ pub mod CapturesRead
 pub mod LentBack
 pub mod Lent
 pub mod Examples
+pub mod Faults
 pub mod Idle
 pub mod Determined
 pub mod Main

@@ -17,12 +17,13 @@ use Rattle.claims.proofs.Demand3.{demand-3, copied-out}
 use Rattle.claims.proofs.Sending.{writer-sends, header-free-writer-sends, writer-sends-no-erasure, tables-never-send-erasures}
 use Rattle.claims.proofs.Missing.{one-missing-packet}
 use Rattle.claims.proofs.Joinings.{every-order-and-grouping, every-permutation, with-itself, difference-ends-in-14, else-they-join}
-use Rattle.claims.proofs.Joinings.{nothing-lost, nothing-invented, equal-knowledge, every-place-in-time, tables-have-room}
+use Rattle.claims.proofs.Joinings.{nothing-lost, nothing-invented, equal-knowledge, every-place-in-time, voices-have-room}
 use Rattle.claims.proofs.Boxes.{boxes-join}
 use Rattle.claims.proofs.Captures.{group-is-recorded, first-source-alone, others-are-not-heard, no-packet-gives-opening}
 use Rattle.claims.proofs.Captures.{nothing-is-larger, capture-exactly-if}
 use Rattle.claims.proofs.CapturesRead.{gives-a-recording}
 use Rattle.claims.proofs.Examples.{marked-examples}
+use Rattle.claims.proofs.Faults.{faults-have-places}
 use Rattle.claims.proofs.Idle.{refuses-everything, pours-erasures, stores-nothing, nods-at-later, invents-lost-frames}
 use Rattle.claims.proofs.Idle.{invents-octet-counts}
 use Rattle.claims.proofs.Determined.{determined}
@@ -78,7 +79,7 @@ promised = record {
   nothing-invented = nothing-invented;
   equal-knowledge = equal-knowledge;
   every-place-in-time = every-place-in-time;
-  tables-have-room = tables-have-room;
+  voices-have-room = voices-have-room;
   copied-out = copied-out;
   boxes-join = boxes-join;
   capture-exactly-if = capture-exactly-if;
@@ -89,6 +90,7 @@ promised = record {
   no-packet-gives-opening = no-packet-gives-opening;
   nothing-is-larger = nothing-is-larger;
   marked-examples = marked-examples;
+  faults-have-places = faults-have-places;
   refuses-everything = refuses-everything;
   pours-erasures = pours-erasures;
   stores-nothing = stores-nothing;

@@ -8,12 +8,15 @@ use native.Mathlib.Omega.{arith}
 use native.Mathlib.Nat.{mod-lt, div-lt-iff-lt-mul, mod-eq-of-lt, mod-add-mod, mod-self, div-add-mod, mul-comm, eq-or-lt-of-le}
 use lib.Dec.{eqb, ltb}
 use borrow.Author.Tests.{lt-ltb, le-ltb, eqb-true, eqb-false, ltb-true, ltb-false}
-use Rattle.frame.specs.FrameTable.{FrameTable, Frame}
+use Rattle.bundle.specs.Bundles.{frameOf}
+use Rattle.holding.specs.Group.{bundleOf, bundleAt}
+use Rattle.frame.specs.FrameTable.{Frame}
+use Rattle.frame.specs.Shape.{Voice}
 use Rattle.frame.specs.Places.{frameAt, upTo}
 use Rattle.form.specs.declared.Form.{Form}
 use Rattle.packet.specs.Packet.{placeOf}
 use Rattle.packet.proofs.Numbering.{place-in}
-use Rattle.pouring.specs.Pouring.{frameIn, row, rows, inTime}
+use Rattle.pouring.specs.Pouring.{row, rows, inTime}
 use Rattle.pouring.proofs.PouringLaws.{rows-at}
 use Rattle.session.specs.declared.Session.{Session}
 use Rattle.claims.specs.Joinings.{HasRoom}
@@ -52,12 +55,13 @@ run-erasures f x (suc m) h =
             let z : ltb x (suc m) ≡ false = le-ltb x (suc m) (over (ltb-false x m p) i) in
             rw (p, e, q, z)
 
-row-erasures : (v : FrameTable) (ms rs : List ℕ) (x m b : ℕ) → x < m → ((n k : ℕ) → n < m → k < b → isErasure (frameIn v ms rs n k) ≡ eqb n x) → erasures (rows v ms rs m b) ≡ b
+row-erasures : (v : Voice) (ms rs : List ℕ) (x m b : ℕ) → x < m → ((n k : ℕ) → n < m → k < b → isErasure (frameOf v (bundleOf (v .shape) ms rs n) k) ≡ eqb n x) → erasures (rows v ms rs m b) ≡ b
 unfolding rows row
 row-erasures v ms rs x m zero h e = refl
 row-erasures v ms rs x m (suc b) h e =
     let i = row-erasures v ms rs x m b h (λ n k p q. e n k p (omega arith)) in
-    let j : erasures (upTo (λ n. frameIn v ms rs n b) m) ≡ 1 = run-erasures (λ n. frameIn v ms rs n b) x m (λ n p. e n b p (omega arith)) ∙ ap (λ (t : Bool). cond t 1 0) (lt-ltb x m h) in
+    let f : ℕ → Frame = λ n. frameOf v (bundleOf (v .shape) ms rs n) b in
+    let j : erasures (upTo f m) ≡ 1 = run-erasures f x m (λ n p. e n b p (omega arith)) ∙ ap (λ (t : Bool). cond t 1 0) (lt-ltb x m h) in
     omega (arith, erasures-append (rows v ms rs m b) (row v ms rs b m))
 
 -- ---- places
@@ -76,7 +80,7 @@ rests-differ t m x h a b =
         absurd (omega arith)
 
 -- ---- one packet missing
-module _ (v : FrameTable) (m : HasRoom v) (form : Form) (g : Sent v form) (s : Session) (ns : List ℕ) (h : HoldsExactly s g ns) (x : ℕ) (o : OneMissing g ns x) where
+module _ (v : Voice) (m : HasRoom v) (form : Form) (g : Sent v form) (s : Session) (ns : List ℕ) (h : HoldsExactly s g ns) (x : ℕ) (o : OneMissing g ns x) where
   places : PouredPlaces s g ns
   places = places-of v m form s g ns h
 
@@ -91,7 +95,7 @@ module _ (v : FrameTable) (m : HasRoom v) (form : Form) (g : Sent v form) (s : S
           ap isErasure (places .original n k i j (o .others n i (eqb-false n x e)))
           ∙ o .no-erasure (placeOf (g .l) n k) (omega (arith, g .many, place-in (g .l) n (g .b) k i j))
 
-  in-time : (n k : ℕ) → n < s .group .l + 1 → k < s .group .b → isErasure (frameIn v (s .group .marks) (s .group .room) n k) ≡ eqb n x
+  in-time : (n k : ℕ) → n < s .group .l + 1 → k < s .group .b → isErasure (frameOf v (bundleAt (v .shape) (s .group) n) k) ≡ eqb n x
   in-time n k i j =
       ap isErasure (sym (rows-at v (s .group .marks) (s .group .room) (s .group .l + 1) (s .group .b) n k i j))
       ∙ ap (λ (l : ℕ). isErasure (frameAt (inTime v (s .group)) (placeOf l n k))) (h .part .of-group .same-length)

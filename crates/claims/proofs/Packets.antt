@@ -53,28 +53,28 @@ last-d : (d t : ℕ) → d ≤ 1 → t < 64 → dOf (0 + d * 64 + t) ≡ d
 last-d d t g h = omega arith
 
 toc-back :
-    (v : FrameTable) (max at d : ℕ) (fs : List Frame) (rest : List ℕ) →
+    (v : FrameTable) (max count at d : ℕ) (fs : List Frame) (rest : List ℕ) →
     d ≤ 1 →
     0 < length fs →
-    at + length fs ≤ max →
+    count + length fs ≤ max →
     Fit v fs →
-    toc v max at (tocOf d (typesOf fs) ++ rest) ≡ contents (typesOf fs) d rest
+    toc v max count at (tocOf d (typesOf fs) ++ rest) ≡ contents (typesOf fs) d (at + length fs) rest
 unfolding toc
-toc-back v max at d [] rest g s h w = absurd (omega arith)
-toc-back v max at d (f ∷ []) rest g s h w =
-    let a : at < max = omega arith in
+toc-back v max count at d [] rest g s h w = absurd (omega arith)
+toc-back v max count at d (f ∷ []) rest g s h w =
+    let a : count < max = omega arith in
     let t = f .type in
     let i : t < 64 = w .0 .small in
     let b : 0 + d * 64 + t < 128 = omega arith in
-    simp (lt-leb max at a, entry-type 0 d t i, w .0 .known, lt-leb 128 (0 + d * 64 + t) b, last-d d t g i)
-toc-back v max at d (f ∷ k ∷ fs) rest g s h w =
-    let a : at < max = omega arith in
+    simp (lt-leb max count a, entry-type 0 d t i, w .0 .known, lt-leb 128 (0 + d * 64 + t) b, last-d d t g i)
+toc-back v max count at d (f ∷ k ∷ fs) rest g s h w =
+    let a : count < max = omega arith in
     let t = f .type in
     let i : t < 64 = w .0 .small in
     let b : 128 ≤ 128 + d * 64 + t = omega arith in
-    let r = toc-back v max (at + 1) d (k ∷ fs) rest g (omega arith) (omega arith) (w .1) in
-    simp (lt-leb max at a, entry-type 1 d t i, w .0 .known, le-leb 128 (128 + d * 64 + t) b)
-    (ap (put t) r)
+    let r = toc-back v max (count + 1) (at + 1) d (k ∷ fs) rest g (omega arith) (omega arith) (w .1) in
+    simp (lt-leb max count a, entry-type 1 d t i, w .0 .known, le-leb 128 (128 + d * 64 + t) b)
+    (ap (put t) r ∙ ap (λ (i : ℕ). contents (t ∷ typesOf (k ∷ fs)) d i rest) (omega arith))
 
 total-back : (v : FrameTable) (fs : List Frame) → Fit v fs → total v (typesOf fs) ≡ length (bodiesOf fs)
 total-back v [] w = refl
@@ -104,7 +104,7 @@ unfolding readAs interleaved bodies
 packed-back v m l n d fs w =
     let a : lOf (l * 8 + n) ≡ l = omega (arith, w .l-small, w .n-below) in
     let b : nOf (l * 8 + n) ≡ n = omega (arith, w .l-small, w .n-below) in
-    let t = toc-back v (m .«max_b») 0 d fs (bodiesOf fs) (w .d-bit) (w .some) (omega (arith, w .few)) (w .fit) in
+    let t = toc-back v (m .«max_b») 0 1 d fs (bodiesOf fs) (w .d-bit) (w .some) (omega (arith, w .few)) (w .fit) in
     let s = total-back v fs (w .fit) in
     simp (
       w .range,
@@ -147,7 +147,7 @@ made-of kind m l n b d es w e =
   where
     go : inRange m ≡ true → d ≤ 1 → n ≤ l → l ≤ m .«max_l» → 1 ≤ b → b ≤ m .«max_b» →
         (u : EntriesRead) → entriesIn kind rule.Sendable es ≡ u → packetOfGroup l n b d u ≡ octets w → MadeOf kind m l n b d es w
-    go g h q s p t (entry.refusedEntries r) x y = apart (cc)
+    go g h q s p t (entry.refusedEntries f) x y = apart (cc)
     go g h q s p t (frames fs) x y =
         let z = passed (eqb (length fs) ((l + 1) * b)) (octets (packed l n d (packetFrames l n b fs))) _ w y in
         let c = eqb-true (length fs) ((l + 1) * b) (z .0) in

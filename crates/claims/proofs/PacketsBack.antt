@@ -41,39 +41,39 @@ use Rattle.claims.specs.Packets.{HeaderFreeReadAfterWrite, HeaderFreeWri
 
 -- ---- the table of contents that is written is the one that was read
 abbrev Back : List ℕ → Toc → Type 0
-Back es (contents ts d rest) = EveryD d (length ts) es → (tocOf d ts ++ rest ≡ es) × (0 < length ts) × (d ≤ 1)
-Back es (fault r) = Unit {0}
+Back es (contents ts d at rest) = EveryD d (length ts) es → (tocOf d ts ++ rest ≡ es) × (0 < length ts) × (d ≤ 1)
+Back es (fault f) = Unit {0}
 
 another : (ts : List ℕ) → 0 < length ts → follows ts ≡ 128
 another [] h = absurd (omega arith)
 another (t ∷ ts) h = refl
 
 put-back : (x : ℕ) (es : List ℕ) (w : Toc) → x < 256 → 128 ≤ x → Back es w → Back (x ∷ es) (put (typeOf x) w)
-put-back x es (contents ts d rest) a b h =
+put-back x es (contents ts d at rest) a b h =
     λ q.
     let i = h (q .1) in
     let e : follows ts + d * 64 + typeOf x ≡ x = omega (arith, another ts (i .1), q .0) in
     (ap₂ (λ (y : ℕ) (l : List ℕ). y ∷ l) e (i .0), omega arith, i .2)
-put-back x es (fault r) a b h = tt
+put-back x es (fault f) a b h = tt
 
 entry-back :
-    (x : ℕ) (es : List ℕ) (w : Toc) (full good on : Bool) →
+    (at x : ℕ) (es : List ℕ) (w : Toc) (full good on : Bool) →
     x < 256 →
     more x ≡ on →
     Back es w →
-    Back (x ∷ es) (entryIf x es w full good on)
-entry-back x es w true good on a e h = tt
-entry-back x es w false false on a e h = tt
-entry-back x es w false true true a e h = put-back x es w a (leb-true 128 x e) h
-entry-back x es w false true false a e h =
+    Back (x ∷ es) (entryIf at x es w full good on)
+entry-back at x es w true good on a e h = tt
+entry-back at x es w false false on a e h = tt
+entry-back at x es w false true true a e h = put-back x es w a (leb-true 128 x e) h
+entry-back at x es w false true false a e h =
     let b = leb-false 128 x e in
     λ q. let y : 0 + dOf x * 64 + typeOf x ≡ x = omega arith in (ap (λ (z : ℕ). z ∷ es) y, omega arith, omega arith)
 
-toc-again : (v : FrameTable) (max at : ℕ) (es : List ℕ) → AreOctets es → Back es (toc v max at es)
+toc-again : (v : FrameTable) (max count at : ℕ) (es : List ℕ) → AreOctets es → Back es (toc v max count at es)
 unfolding toc
-toc-again v max at [] o = tt
-toc-again v max at (x ∷ es) o =
-    entry-back x es (toc v max (at + 1) es) (leb max at) (known v (typeOf x)) (more x) (o .0) refl (toc-again v max (at + 1) es (o .1))
+toc-again v max count at [] o = tt
+toc-again v max count at (x ∷ es) o =
+    entry-back at x es (toc v max (count + 1) (at + 1) es) (leb max count) (known v (typeOf x)) (more x) (o .0) refl (toc-again v max (count + 1) (at + 1) es (o .1))
 
 types-cut : (v : FrameTable) (ts bs : List ℕ) → typesOf (cut v ts bs) ≡ ts
 types-cut v [] bs = refl
@@ -109,7 +109,7 @@ again v m p l n d gs e o h q =
     let w = x .whole in
     let c : length gs ≡ length (x .ts) = ap length (x .frames) ∙ length-cut v (x .ts) (x .rest) in
     let q′ : EveryD d (length (x .ts)) (x .es) = subst (λ (k : ℕ). EveryD d k (x .es)) c (subst (λ (r : List ℕ). EveryD d (length gs) (drop 1 r)) (x .split) q) in
-    let b = subst (Back (x .es)) (x .toc-is) (toc-again v (m .«max_b») 0 (x .es) (octets-behind p (x .head) (x .es) (x .split) o)) q′ in
+    let b = subst (Back (x .es)) (x .toc-is) (toc-again v (m .«max_b») 0 1 (x .es) (octets-behind p (x .head) (x .es) (x .split) o)) q′ in
     let t : typesOf gs ≡ x .ts = ap typesOf (x .frames) ∙ types-cut v (x .ts) (x .rest) in
     let u : bodiesOf gs ≡ x .rest = ap bodiesOf (x .frames) ∙ bodies-cut v (x .ts) (x .rest) ∙ take-all (total v (x .ts)) (x .rest) (omega (arith, x .full)) in
     let h′ : x .head < 64 = subst (λ (r : List ℕ). getD r 0 0 < 64) (x .split) h in
@@ -156,7 +156,7 @@ unfolding PacketWriteAfterRead packetMade packetOfGroup
 packet-write-after-read kind h m p l n d gs e o z q fs g =
     let x = again (kind .table) m p l n d gs e o z q in
     let y : entriesIn kind rule.Sendable (entriesOf fs) ≡ frames fs =
-    entries-written kind h (allowed (kind .table) rule.Sendable) fs (every-so _ _ (listed-sendable (kind .table)) fs (g .sendable)) (all-ok (kind .table) fs (g .sendable)) in
+    entries-written kind h (allowed (kind .table) rule.Sendable) 0 fs (every-so _ _ (listed-sendable (kind .table)) fs (g .sendable)) (all-ok (kind .table) fs (g .sendable)) in
     simp (x .range, le-leb d 1 (x .bit))
     (within-group kind m l n (length gs) d (entriesOf fs) (x .index) (x .short) (x .some) (x .few)
     ∙ rw (y, eq-eqb (length fs) ((l + 1) * length gs) (g .many), g .ours) (ap octets (x .same)))
@@ -198,7 +198,7 @@ unfolding HeaderFreeReadAfterWrite headerFreeMade oneBody readAs payload.oneBody
 header-free-read-after-write kind h es w e = go (entriesIn kind rule.HeaderFree es) refl e
   where
     go : (u : EntriesRead) → entriesIn kind rule.HeaderFree es ≡ u → oneBody u ≡ octets w → readAs (kind .table) HeaderFree w ≡ packet 0 0 0 (groupIn kind es)
-    go (entry.refusedEntries r) q x = apart (cc)
+    go (entry.refusedEntries f) q x = apart (cc)
     go (frames []) q x = apart (cc)
     go (frames (f ∷ k ∷ fs)) q x = apart (cc)
     go (frames (f ∷ [])) q x =
@@ -222,7 +222,7 @@ header-free-write-after-read kind h p l n d f e s = go (eqb (length p) 0) refl e
     here (Found r) z x =
         let b : p ≡ f .body = cc in
         let y : entriesIn kind rule.HeaderFree (entriesOf (f ∷ [])) ≡ frames (f ∷ []) =
-        entries-written kind h (allowed (kind .table) rule.HeaderFree) (f ∷ []) (listed-sendable (kind .table) f s, tt)
+        entries-written kind h (allowed (kind .table) rule.HeaderFree) 0 (f ∷ []) (listed-sendable (kind .table) f s, tt)
         (simp (lt-ltb 0 (length (f .body)) (omega (arith, ap length b)), s), tt) in
         rw y (ap octets (sym b))
 

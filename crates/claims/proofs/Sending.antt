@@ -104,7 +104,7 @@ unfolding headerFreeMade oneBody framesIn
 one-frame kind es w e = go (entriesIn kind rule.HeaderFree es) refl e
   where
     go : (u : EntriesRead) → entriesIn kind rule.HeaderFree es ≡ u → oneBody u ≡ octets w → One kind es
-    go (entry.refusedEntries r) q x = apart (cc)
+    go (entry.refusedEntries f) q x = apart (cc)
     go (frames []) q x = apart (cc)
     go (frames (f ∷ k ∷ fs)) q x = apart (cc)
     go (frames (f ∷ [])) q x =

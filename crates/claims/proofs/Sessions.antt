@@ -7,7 +7,8 @@ use native.Mathlib.Omega.{arith}
 use lib.ListN.{length, length-append}
 use borrow.Author.Tests.{eq-eqb, ne-eqb}
 use Rattle.octets.proofs.Logic.{apart}
-use Rattle.frame.specs.FrameTable.{FrameTable, Frame}
+use Rattle.frame.specs.FrameTable.{Frame}
+use Rattle.frame.specs.Shape.{Shape, Voice}
 use Rattle.answers.specs.Outputs.{octets, refusedOutput}
 use Rattle.form.specs.declared.Form.{Form}
 use Rattle.answers.specs.declared.Refusal.the-variants.{NotApplicable}
@@ -41,7 +42,7 @@ refused-offer-changes-nothing v s source q t p r e = go (offered v s source q t 
 
     go : (o : Offered) → Ends v s source q t p o → o .answer ≡ Refused r → o .session ≡ s
     go o (refuses x f) h = ap (λ (y : Offered). y .session) f
-    go o (places a b l n d fs c x) h = same _ o (seen s (arrival q t l n fs) o x) h
+    go o (places a b l n d fs c x) h = same _ o (seen (v .shape) s (arrival (v .shape) q t l n fs) o x) h
 
 pub lost-frames-by-formula : LostFramesByFormula
 unfolding LostFramesByFormula refuse accept
@@ -51,12 +52,12 @@ lost-frames-by-formula v s source q t p l n d fs r lost e = go (offered v s sour
     counted m o (kept x f) h = let z : Refused x ≡ Accepted lost = sym (ap (λ (y : Offered). y .answer) f) ∙ h in apart (cc)
     counted m o (took u f) h = let z : Accepted m ≡ Accepted lost = sym (ap (λ (y : Offered). y .answer) f) ∙ h in cc
 
-    go : (o : Offered) → Ends v s source q t p o → o .answer ≡ Accepted lost → lost ≡ lostBefore s (arrival q t l n fs .numbers)
+    go : (o : Offered) → Ends v s source q t p o → o .answer ≡ Accepted lost → lost ≡ lostBefore (v .shape) s (arrival (v .shape) q t l n fs .numbers)
     go o (refuses x f) h = let z : Refused x ≡ Accepted lost = sym (ap (λ (y : Offered). y .answer) f) ∙ h in apart (cc)
     go o (places a b l′ n′ d′ fs′ c x) h =
         let z : packet l n d fs ≡ packet l′ n′ d′ fs′ = sym r ∙ c in
-        let y : arrival q t l′ n′ fs′ ≡ arrival q t l n fs = cc in
-        counted _ o (seen s (arrival q t l′ n′ fs′) o x) h ∙ ap (λ (a : Arrival). lostBefore s (a .numbers)) y
+        let y : arrival (v .shape) q t l′ n′ fs′ ≡ arrival (v .shape) q t l n fs = cc in
+        counted _ o (seen (v .shape) s (arrival (v .shape) q t l′ n′ fs′) o x) h ∙ ap (λ (a : Arrival). lostBefore (v .shape) s (a .numbers)) y
 
 -- ---- another source
 pub another-source-is-10 : AnotherSourceIs10
@@ -70,29 +71,29 @@ another-sources-words-are-not-heard v s source q t n p p′ = simp (ne-eqb sourc
 -- ---- opening and ending
 pub opening-forgets : OpeningForgets
 unfolding OpeningForgets openedFor
-opening-forgets s t source form e = (simp e, simp e)
+opening-forgets shape s t source form e = (simp e, simp e)
 
 pub ended-takes-nothing : EndedTakesNothing
 unfolding EndedTakesNothing offered isOpen neverOpened vacant
 ended-takes-nothing v source q t p = refl
 
-pub fresh-open : (v : FrameTable) (source : ℕ) (form : Form) → formRight form ≡ true → isOpen v (fresh source form) ≡ true
+pub fresh-open : (v : Voice) (source : ℕ) (form : Form) → formRight form ≡ true → isOpen v (fresh (v .shape) source form) ≡ true
 unfolding isOpen fresh vacant lastRight groupRight
-fresh-open v source form e = simp (e, nothing-is)
+fresh-open v source form e = simp (e, nothing-is (v .shape))
 
-fresh-placed : (source : ℕ) (form : Form) (a : Arrival) → placed (fresh source form) a ≡ begins (fresh source form) a 0
+fresh-placed : (u : Shape) (source : ℕ) (form : Form) (a : Arrival) → placed u (fresh u source form) a ≡ begins u (fresh u source form) a 0
 unfolding placed groupBefore decided placedBy fresh vacant
-fresh-placed source form a = simp nothing-is
+fresh-placed u source form a = simp (nothing-is u)
 
 pub first-packet-begins-alone : FirstPacketBeginsAlone
 unfolding FirstPacketBeginsAlone offered received judged fresh vacant
-first-packet-begins-alone v source form e q t p l n d fs r = rw (fresh-open v source form e, eq-eqb source source refl, r) (fresh-placed source form (arrival q t l n fs))
+first-packet-begins-alone v source form e q t p l n d fs r = rw (fresh-open v source form e, eq-eqb source source refl, r) (fresh-placed (v .shape) source form (arrival (v .shape) q t l n fs))
 
 -- ---- a repeat
 pub repeat-changes-nothing : RepeatChangesNothing
 unfolding RepeatChangesNothing offered received judged placed groupBefore decided withHeld atDistance differ numbersOf placedBy belongs arrival
 repeat-changes-nothing v s o q t l n d fs x p r =
-    let z : sameBundles (bundleAt (s .group) n) (laid fs) ≡ true = rw (x .frames) (packets-refl (laid fs)) in
+    let z : sameBundles (bundleAt (v .shape) (s .group) n) (laid (v .shape) fs) ≡ true = rw (x .frames) (packets-refl (laid (v .shape) fs)) in
     simp (o, eq-eqb (s .source) (s .source) refl, r, x .some, x .base, eq-eqb _ _ (x .same-length), eq-eqb _ _ (x .same-bundle), eq-eqb _ _ (x .time), x .held, z)
 
 -- ---- the octet count

@@ -3,7 +3,7 @@ use Prim.Native.Nat.{ℕ, _<_}
 use mathlib.Core.Path.{_≡_}
 use mathlib.Core.List.{List, [], _∷_}
 use mathlib.Core.Bool.{Bool, false, _||_}
-use Rattle.frame.specs.FrameTable.{FrameTable}
+use Rattle.frame.specs.Shape.{Voice, packetsOf}
 use Rattle.form.specs.declared.Form.{Form}
 use Rattle.holding.specs.declared.Holding.{Holding}
 use Rattle.knowledge.specs.Knowledge.{Among}
@@ -16,7 +16,7 @@ use Rattle.claims.specs.Demand3.{Sent, among, Part, HoldsExactly}
 -- such a session's holding can be copied out
 unfoldable pub CopiedOut : Type 0
 CopiedOut =
-    (v : FrameTable) (form : Form) (s : Session) (g : Sent v form) (ns : List ℕ) → HoldsExactly s g ns →
+    (v : Voice) (form : Form) (s : Session) (g : Sent v form) (ns : List ℕ) → HoldsExactly s g ns →
     copied v s ≡ record { answer = Done; holding = s .group }
 
 -- some box was offered packet n
@@ -27,7 +27,8 @@ offeredTo n parts (h ∷ hs) = among n (parts h) || offeredTo n parts hs
 -- boxes that each were offered a part of the group, joined in any order and grouping, hold what one box would that was offered all of it
 unfoldable pub BoxesJoin : Type 0
 BoxesJoin =
-    (v : FrameTable) → HasRoom v → (form : Form) (g : Sent v form) (w : Way) (parts : Holding → List ℕ) →
+    (v : Voice) → HasRoom v → (form : Form) (g : Sent v form) (w : Way) (parts : Holding → List ℕ) →
     ((h : Holding) → Among h (boxes w) → Part h g (parts h)) →
-    (one : Session) (all : List ℕ) → HoldsExactly one g all → ((n : ℕ) → n < 8 → among n all ≡ offeredTo n parts (boxes w)) →
+    (one : Session) (all : List ℕ) → HoldsExactly one g all →
+    ((n : ℕ) → n < packetsOf (v .shape) → among n all ≡ offeredTo n parts (boxes w)) →
     outcome v w ≡ done (one .group)

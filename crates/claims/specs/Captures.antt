@@ -5,7 +5,8 @@ use mathlib.Core.List.{List, [], _∷_, _++_, map}
 use mathlib.Core.Bool.{true, false, cond, _&&_}
 use lib.Dec.{T, eqb, leb}
 use lib.ListN.{length}
-use Rattle.frame.specs.FrameTable.{FrameTable, Frame, erasure, single}
+use Rattle.frame.specs.FrameTable.{Frame, erasure, single}
+use Rattle.frame.specs.Shape.{Voice, voiceWith}
 use Rattle.entries.specs.Kind.{Kind, keepsTypes, listsErasure}
 use Rattle.frame.specs.Places.{frameAt}
 use Rattle.form.specs.declared.Form.{Form}
@@ -19,7 +20,7 @@ use Rattle.claims.specs.Joinings.{HasRoom}
 use Rattle.claims.specs.Demand3.{Sent, Within, among}
 
 -- packet n of a group, as a box hands it over
-abbrev pub heardOf : {v : FrameTable} {form : Form} → Sent v form → ℕ → Heard
+abbrev pub heardOf : {v : Voice} {form : Form} → Sent v form → ℕ → Heard
 heardOf g n =
     record {
       source = g .source;
@@ -29,7 +30,7 @@ heardOf g n =
     }
 
 -- a recording of a group of which these packets were heard: at each time place the original frame, or an erasure
-pub record RecordsGroup {v : FrameTable} {form : Form} (recording opening : List ℕ) (g : Sent v form) (ns : List ℕ) : Type 0 where
+pub record RecordsGroup {v : Voice} {form : Form} (recording opening : List ℕ) (g : Sent v form) (ns : List ℕ) : Type 0 where
   pub frames : List Frame
   pub behind-opening : recording ≡ opening ++ entriesOf frames
   pub count : length frames ≡ (g .l + 1) * g .b
@@ -43,8 +44,9 @@ pub record RecordsGroup {v : FrameTable} {form : Form} (recording opening : List
 -- demand 3 through a capture: a group that was sent, any part of it, in any order, repeats allowed
 unfoldable pub GroupIsRecorded : Type 0
 GroupIsRecorded =
-    (kind : Kind) → HasRoom (kind .table) → (g : Sent (kind .table) captureForm) (n : ℕ) (ns : List ℕ) → Within (g .l) (n ∷ ns) →
-    (c : List ℕ) → packetsIn c ≡ map (heardOf g) (n ∷ ns) → RecordsGroup (captureRecording kind c) (kind .opening) g (n ∷ ns)
+    (kind : Kind) → HasRoom (voiceWith (kind .table)) → (g : Sent (voiceWith (kind .table)) captureForm) (n : ℕ) (ns : List ℕ) →
+    Within (g .l) (n ∷ ns) → (c : List ℕ) → packetsIn c ≡ map (heardOf g) (n ∷ ns) →
+    RecordsGroup (captureRecording kind c) (kind .opening) g (n ∷ ns)
 
 -- the packets that have this source
 abbrev pub fromSource : ℕ → List Heard → List Heard
@@ -70,8 +72,8 @@ pub record IsRecording (kind : Kind) (w : List ℕ) : Type 0 where
 -- "Otherwise it writes a recording", whatever the packets hold; a kind that passes these tests, as every vocoder's does (`KindsPass`)
 unfoldable pub GivesARecording : Type 0
 GivesARecording =
-    (kind : Kind) → HasRoom (kind .table) → T (single (kind .table) (kind .table)) → T (keepsTypes kind) → T (listsErasure kind) →
-    (c : List ℕ) → IsRecording kind (captureRecording kind c)
+    (kind : Kind) → HasRoom (voiceWith (kind .table)) → T (single (kind .table) (kind .table)) → T (keepsTypes kind) →
+    T (listsErasure kind) → (c : List ℕ) → IsRecording kind (captureRecording kind c)
 
 -- "Count 0 gives the seven opening octets."
 unfoldable pub NoPacketGivesOpening : Type 0

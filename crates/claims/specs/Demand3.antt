@@ -1,5 +1,5 @@
 -- Demand 3: a group that our writer made, any part of it offered in any order, repeats allowed, to a session that is ready for it.
--- Over any frame table that a holding has room for, and any packet format for which reading after writing holds: that law is the field
+-- Over any shape and frame table that has room, and any packet format for which reading after writing holds: that law is the field
 -- `read` of `Sent`, and all that is asked of a format.
 use Prim.Native.Nat.{ℕ, _+_, _*_, _%_, _≤_, _<_}
 use mathlib.Core.Path.{_≡_}
@@ -7,7 +7,8 @@ use mathlib.Core.List.{List, [], _∷_}
 use mathlib.Core.Bool.{Bool, true, false, cond, _||_}
 use lib.Dec.{eqb}
 use lib.ListN.{length}
-use Rattle.frame.specs.FrameTable.{FrameTable, Frame, AllListed, erasure}
+use Rattle.frame.specs.FrameTable.{Frame, AllListed, erasure}
+use Rattle.frame.specs.Shape.{Voice, packetsOf}
 use Rattle.frame.specs.Places.{frameAt}
 use Rattle.form.specs.declared.Form.{Form}
 use Rattle.payload.specs.Payload.{packet, readAs}
@@ -29,7 +30,7 @@ use Rattle.claims.specs.Joinings.{HasRoom}
 use Rattle.claims.specs.Sessions.{lostBefore, bodyOctets}
 
 -- a group as it was written: its numbers, its frames in time order, and the payload of each packet, which is read as that packet's frames
-pub record Sent (v : FrameTable) (form : Form) : Type 0 where
+pub record Sent (v : Voice) (form : Form) : Type 0 where
   pub source : ℕ
   pub sequence : ℕ
   pub timestamp : ℕ
@@ -40,40 +41,40 @@ pub record Sent (v : FrameTable) (form : Form) : Type 0 where
   pub d : ℕ → ℕ
   pub sequence-fits : sequence < 65536
   pub timestamp-fits : timestamp < 4294967296
-  pub low : l ≤ 7
+  pub low : l ≤ v .shape .greatest
   pub some : 1 ≤ b
   pub few : b ≤ 10
   pub many : length frames ≡ (l + 1) * b
-  pub listed : AllListed v frames
-  pub read : (n : ℕ) → n ≤ l → readAs v form (payload n) ≡ packet l n (d n) (packetFrames l n b frames)
+  pub listed : AllListed (v .table) frames
+  pub read : (n : ℕ) → n ≤ l → readAs (v .table) form (payload n) ≡ packet l n (d n) (packetFrames l n b frames)
 
 -- the numbers that its packets share
-abbrev pub sentNumbers : {v : FrameTable} {form : Form} → Sent v form → GroupNumbers
+abbrev pub sentNumbers : {v : Voice} {form : Form} → Sent v form → GroupNumbers
 sentNumbers g = record { sequence = g .sequence; timestamp = g .timestamp; l = g .l; b = g .b }
 
 -- "numbered and stamped": packet N has the base numbers and N, wrap-around included
-abbrev pub offerOne : {v : FrameTable} {form : Form} → Session → Sent v form → ℕ → Offered
+abbrev pub offerOne : {v : Voice} {form : Form} → Session → Sent v form → ℕ → Offered
 offerOne {v} s g n =
     offered v s (g .source) ((g .sequence + n) % 65536) ((g .timestamp + 160 * n) % 4294967296) (g .payload n)
 
 -- its packets of these numbers, one after the other
-unfoldable pub offerAll : {v : FrameTable} {form : Form} → Session → Sent v form → List ℕ → Session
+unfoldable pub offerAll : {v : Voice} {form : Form} → Session → Sent v form → List ℕ → Session
 offerAll s g [] = s
 offerAll s g (n ∷ ns) = offerAll (offerOne s g n .session) g ns
 
 -- every offer is accepted; the first reports these lost frames, the others none
-unfoldable pub AllAccepted : {v : FrameTable} {form : Form} → Session → Sent v form → ℕ → List ℕ → Type 0
+unfoldable pub AllAccepted : {v : Voice} {form : Form} → Session → Sent v form → ℕ → List ℕ → Type 0
 AllAccepted s g before [] = Unit {0}
 AllAccepted s g before (n ∷ ns) = (offerOne s g n .answer ≡ Accepted before) × AllAccepted (offerOne s g n .session) g 0 ns
 
 -- "ready for a group if it is open for its source in the form the group was written in, holds none, and these rules would begin it"
-pub record Ready {v : FrameTable} {form : Form} (s : Session) (g : Sent v form) : Type 0 where
+pub record Ready {v : Voice} {form : Form} (s : Session) (g : Sent v form) : Type 0 where
   pub opened : isOpen v s ≡ true
   pub for-source : s .source ≡ g .source
   pub in-form : s .form ≡ form
-  pub vacant : isNothing (s .group) ≡ true
+  pub vacant : isNothing (v .shape) (s .group) ≡ true
   pub reported : ℕ
-  pub would-begin : decided (groupBefore s) (sentNumbers g) ≡ Begins reported
+  pub would-begin : decided (groupBefore (v .shape) s) (sentNumbers g) ≡ Begins reported
 
 -- numbers of packets of the group
 abbrev pub Within : ℕ → List ℕ → Type 0
@@ -86,15 +87,15 @@ among n [] = false
 among n (m ∷ ms) = eqb n m || among n ms
 
 -- what is known of packet n as it was sent
-abbrev pub sentPacket : {v : FrameTable} {form : Form} → Sent v form → ℕ → Known
+abbrev pub sentPacket : {v : Voice} {form : Form} → Sent v form → ℕ → Known
 sentPacket g n = record { held = true; frames = packetFrames (g .l) n (g .b) (g .frames) }
 
 -- what is known of packet n where these were offered
-abbrev pub knowledge : {v : FrameTable} {form : Form} → Sent v form → List ℕ → ℕ → Known
+abbrev pub knowledge : {v : Voice} {form : Form} → Sent v form → List ℕ → ℕ → Known
 knowledge g ns n = cond (among n ns) (sentPacket g n) unheard
 
 -- a holding with the group's numbers
-pub record OfGroup {v : FrameTable} {form : Form} (h : Holding) (g : Sent v form) : Type 0 where
+pub record OfGroup {v : Voice} {form : Form} (h : Holding) (g : Sent v form) : Type 0 where
   pub of-source : h .source ≡ g .source
   pub base : h .sequence ≡ g .sequence
   pub time : h .timestamp ≡ g .timestamp
@@ -102,20 +103,20 @@ pub record OfGroup {v : FrameTable} {form : Form} (h : Holding) (g : Sent v form
   pub same-bundle : h .b ≡ g .b
 
 -- a holding of the group that names exactly these packets
-pub record Part {v : FrameTable} {form : Form} (h : Holding) (g : Sent v form) (ns : List ℕ) : Type 0 where
+pub record Part {v : Voice} {form : Form} (h : Holding) (g : Sent v form) (ns : List ℕ) : Type 0 where
   pub box : Box v h
   pub of-group : OfGroup h g
-  pub knows : (n : ℕ) → n < 8 → knownOf v h n ≡ knowledge g ns n
+  pub knows : (n : ℕ) → n < packetsOf (v .shape) → knownOf v h n ≡ knowledge g ns n
 
 -- the session is open as it was, and its holding is the one that names exactly the packets offered
-pub record HoldsExactly {v : FrameTable} {form : Form} (s : Session) (g : Sent v form) (ns : List ℕ) : Type 0 where
+pub record HoldsExactly {v : Voice} {form : Form} (s : Session) (g : Sent v form) (ns : List ℕ) : Type 0 where
   pub still-open : isOpen v s ≡ true
   pub for-source : s .source ≡ g .source
   pub in-form : s .form ≡ form
   pub part : Part (s .group) g ns
 
 -- each time place has the original frame if its packet was offered, and an erasure if not
-pub record PouredPlaces {v : FrameTable} {form : Form} (s : Session) (g : Sent v form) (ns : List ℕ) : Type 0 where
+pub record PouredPlaces {v : Voice} {form : Form} (s : Session) (g : Sent v form) (ns : List ℕ) : Type 0 where
   pub count : length (inTime v (s .group)) ≡ (g .l + 1) * g .b
   pub original :
       (n k : ℕ) → n ≤ g .l → k < g .b → among n ns ≡ true →
@@ -125,8 +126,8 @@ pub record PouredPlaces {v : FrameTable} {form : Form} (s : Session) (g : Sent v
       frameAt (inTime v (s .group)) (placeOf (g .l) n k) ≡ record { type = erasure; body = [] }
 
 -- the third demand: what is offered is accepted, held, and poured, and both counts are those of the formulas
-pub record Delivered {v : FrameTable} {form : Form} (s : Session) (g : Sent v form) (n : ℕ) (ns : List ℕ) : Type 0 where
-  pub accepted : AllAccepted s g (lostBefore s (sentNumbers g)) (n ∷ ns)
+pub record Delivered {v : Voice} {form : Form} (s : Session) (g : Sent v form) (n : ℕ) (ns : List ℕ) : Type 0 where
+  pub accepted : AllAccepted s g (lostBefore (v .shape) s (sentNumbers g)) (n ∷ ns)
   pub exactly : HoldsExactly (offerAll s g (n ∷ ns)) g (n ∷ ns)
   pub places : PouredPlaces (offerAll s g (n ∷ ns)) g (n ∷ ns)
   pub poured : pourMade v (offerAll s g (n ∷ ns)) ≡ octets (entriesOf (inTime v (offerAll s g (n ∷ ns) .group)))
@@ -137,6 +138,6 @@ pub record Delivered {v : FrameTable} {form : Form} (s : Session) (g : Sent v fo
 -- "one interleave group .. and a session ready for it .. Offer at least one of its packets, any of them, in any order, repeats allowed."
 unfoldable pub Demand3 : Type 0
 Demand3 =
-    (v : FrameTable) → HasRoom v → (form : Form) (g : Sent v form) (s : Session) → Ready s g → (n : ℕ) (ns : List ℕ) →
+    (v : Voice) → HasRoom v → (form : Form) (g : Sent v form) (s : Session) → Ready s g → (n : ℕ) (ns : List ℕ) →
     Within (g .l) (n ∷ ns) →
     Delivered s g n ns

@@ -44,6 +44,8 @@ pub record Determined : Type 0 where
   pub octetsPutFour : Fixed octets.putFour
   pub refusalNumber : Fixed answers.refusalNumber
   pub frameRowOf : Fixed frame.rowOf
+  pub frameCellOf : Fixed frame.cellOf
+  pub framePacketsOf : Fixed frame.packetsOf
   pub frameBodySize : Fixed frame.bodySize
   pub frameRowOfSize : Fixed frame.rowOfSize
   pub frameLowBits : Fixed frame.lowBits
@@ -66,6 +68,7 @@ pub record Determined : Type 0 where
   pub numbersDecide : Fixed numbers.decide
   pub bundleNotHeld : Fixed bundle.notHeld
   pub bundleSameBundles : Fixed bundle.sameBundles
+  pub bundleIsNotHeld : Fixed bundle.isNotHeld
   pub bundleFramesRight : Fixed bundle.framesRight
   pub payloadRead : Fixed payload.read
   pub payloadLocate : Fixed payload.locate

@@ -4,6 +4,7 @@ use mathlib.Core.Path.{_≡_}
 use mathlib.Core.Bool.{true, false}
 use mathlib.Core.List.{List, [], _∷_, _++_, map}
 use lib.ListN.{length, replicate}
+use Rattle.frame.specs.Shape.{Shape}
 use Rattle.form.specs.Agreed.{tableOf}
 use Rattle.form.specs.Agreed.{defaultForm}
 use Rattle.answers.specs.Answers.{numberOf}
@@ -35,7 +36,7 @@ from m (suc n) = m ∷ from (suc m) n
 
 -- the same of what a payload was read as
 abbrev saidOf : Form → List ℕ → Reading → Says
-saidOf f p (refusedPayload r) = number (numberOf r)
+saidOf f p (refusedPayload x) = number (numberOf (x .refusal))
 saidOf f p (packet l n d fs) =
     holds l n (length fs) d (map (locatedOf (givenAs (tableOf f) f p)) (from 0 (length fs)))
     (map (bodyOf (givenAs (tableOf f) f p)) (from 0 (length fs)))
@@ -84,16 +85,19 @@ rows =
     []
 
 -- a session that holds a group of base FFFF and L 1
-pub record HoldsP15 (s : Session) : Type 0 where
-  pub some : isNothing (s .group) ≡ false
+pub record HoldsP15 (shape : Shape) (s : Session) : Type 0 where
+  pub some : isNothing shape (s .group) ≡ false
   pub base : s .group .sequence ≡ 0xFFFF
   pub length-one : s .group .l ≡ 1
 
 -- (P15) "held base FFFF, L 1: new base 0001 is 12, 0000 is 11, FFFE is 13", of any session that holds such a group
 pub record P15 : Type 0 where
-  pub later : (s : Session) (a : Arrival) → HoldsP15 s → a .numbers .sequence ≡ 0x0001 → placed s a ≡ refuse s LaterGroup
-  pub inside : (s : Session) (a : Arrival) → HoldsP15 s → a .numbers .sequence ≡ 0x0000 → placed s a ≡ refuse s ContradictsGroup
-  pub earlier : (s : Session) (a : Arrival) → HoldsP15 s → a .numbers .sequence ≡ 0xFFFE → placed s a ≡ refuse s EarlierGroup
+  pub later : (shape : Shape) (s : Session) (a : Arrival) → HoldsP15 shape s → a .numbers .sequence ≡ 0x0001 →
+      placed shape s a ≡ refuse s LaterGroup
+  pub inside : (shape : Shape) (s : Session) (a : Arrival) → HoldsP15 shape s → a .numbers .sequence ≡ 0x0000 →
+      placed shape s a ≡ refuse s ContradictsGroup
+  pub earlier : (shape : Shape) (s : Session) (a : Arrival) → HoldsP15 shape s → a .numbers .sequence ≡ 0xFFFE →
+      placed shape s a ≡ refuse s EarlierGroup
 
 -- the whole case: two packets of one group
 abbrev pub wholeCase : List ℕ

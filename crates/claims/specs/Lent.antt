@@ -1,12 +1,13 @@
 -- Document 01, "Session", on sessions and holdings in octets that a host lends ("Capture program"): what holds of every such octets. Over
--- any frame table.
+-- any frame table in a holding.
 use Prim.Native.Nat.{ℕ, _<_}
 use mathlib.Core.Path.{_≡_}
 use mathlib.Core.List.{List}
 use mathlib.Core.Bool.{true, false}
 use lib.ListN.{length, take, replicate}
 use Rattle.octets.specs.Octets.{over, anySet}
-use Rattle.frame.specs.FrameTable.{FrameTable, Frame}
+use Rattle.frame.specs.FrameTable.{Frame}
+use Rattle.frame.specs.Shape.{Voice, packetsOf, holdingShape}
 use Rattle.answers.specs.Outputs.{refusedOutput}
 use Rattle.answers.specs.declared.Refusal.the-variants.{NotApplicable}
 use Rattle.form.specs.declared.Form.{Form}
@@ -26,8 +27,8 @@ use Rattle.claims.specs.Sessions.{Repeat}
 
 -- a wholly zero buffer is a session never opened, and a session never opened, or ended, is wholly zero
 pub record ZeroIsNeverOpened : Type 0 where
-  pub read : sessionIn (replicate 2304 0) ≡ neverOpened
-  pub laid : sessionLaid neverOpened ≡ replicate 2304 0
+  pub read : sessionIn (replicate 2304 0) ≡ neverOpened holdingShape
+  pub laid : sessionLaid (neverOpened holdingShape) ≡ replicate 2304 0
 
 -- "shorter than its octets is no session and no holding"
 unfoldable pub ShortIsNone : Type 0
@@ -36,17 +37,18 @@ ShortIsNone = (o : List ℕ) → length o < 2304 → (isSession o ≡ false) × 
 -- octets that are no session count as not open: 21 whatever is offered
 unfoldable pub NoSessionTakesNothing : Type 0
 NoSessionTakesNothing =
-    (v : FrameTable) (o : List ℕ) → isSession o ≡ false → (source sequence timestamp : ℕ) (p : List ℕ) →
-    offered v (sessionIn o) source sequence timestamp p ≡ refuse neverOpened NotApplicable
+    (v : Voice) (o : List ℕ) → isSession o ≡ false → (source sequence timestamp : ℕ) (p : List ℕ) →
+    offered v (sessionIn o) source sequence timestamp p ≡ refuse (neverOpened holdingShape) NotApplicable
 
 -- octets that are no holding count as holding no packet: 21
 unfoldable pub NoHoldingHoldsNothing : Type 0
 NoHoldingHoldsNothing =
-    (v : FrameTable) (o : List ℕ) → isHolding o ≡ false → (holdingIn o ≡ nothing) × (poured v (holdingIn o) ≡ refusedOutput NotApplicable)
+    (v : Voice) (o : List ℕ) → isHolding o ≡ false →
+    (holdingIn o ≡ nothing holdingShape) × (poured v (holdingIn o) ≡ refusedOutput NotApplicable)
 
 -- what a call laid out reads back the same, whatever the buffer held; a holding is as long as its type makes it, and types are octets
 unfoldable pub HoldingReadsBack : Type 0
-HoldingReadsBack = (h : Holding) → Shaped h → AreOctets (h .marks) → (o : List ℕ) → holdingIn (over o 0 (holdingLaid h)) ≡ h
+HoldingReadsBack = (h : Holding) → Shaped holdingShape h → AreOctets (h .marks) → (o : List ℕ) → holdingIn (over o 0 (holdingLaid h)) ≡ h
 
 -- a session in which no group was poured has the numbers of none
 unfoldable pub NoneRemembered : Session → Type 0
@@ -54,16 +56,16 @@ NoneRemembered s = s .poured ≡ false → (s .«last_sequence» ≡ 0) × ((s .
 
 -- so it is with every session that a call reads or gives
 pub record NothingPouredNothingRemembered : Type 0 where
-  pub opened : (source : ℕ) (form : Form) → NoneRemembered (openedFor neverOpened source form .session)
+  pub opened : (source : ℕ) (form : Form) → NoneRemembered (openedFor holdingShape (neverOpened holdingShape) source form .session)
   pub lent : (o : List ℕ) → NoneRemembered (sessionIn o)
-  pub offers : (v : FrameTable) (s : Session) (source sequence timestamp : ℕ) (p : List ℕ) →
+  pub offers : (v : Voice) (s : Session) (source sequence timestamp : ℕ) (p : List ℕ) →
       NoneRemembered s → NoneRemembered (offered v s source sequence timestamp p .session)
-  pub pours : (s : Session) → NoneRemembered (ended s)
+  pub pours : (s : Session) → NoneRemembered (ended holdingShape s)
 
 -- the same for such a session
 unfoldable pub SessionReadsBack : Type 0
 SessionReadsBack =
-    (s : Session) → NoneRemembered s → Shaped (s .group) → AreOctets (s .group .marks) → (o : List ℕ) →
+    (s : Session) → NoneRemembered s → Shaped holdingShape (s .group) → AreOctets (s .group .marks) → (o : List ℕ) →
     sessionIn (over o 0 (sessionLaid s)) ≡ s
 
 -- "Octets of the layout that stand for nothing are zero": what counts as an open session is, laid out again, the octets it was read from
@@ -81,14 +83,15 @@ pub record EqualIsEqualOctets : Type 0 where
 
 -- "an accepted repeat changes none": what leaves the session as it was leaves its octets as they were, and a repeat does
 pub record RepeatChangesNoOctet : Type 0 where
-  pub kept : (v : FrameTable) (o : List ℕ) (source sequence timestamp : ℕ) (p : List ℕ) →
+  pub kept : (v : Voice) (o : List ℕ) (source sequence timestamp : ℕ) (p : List ℕ) →
       offered v (sessionIn o) source sequence timestamp p .session ≡ sessionIn o → offerOctets v o source sequence timestamp p ≡ o
-  pub repeated : (v : FrameTable) (o : List ℕ) → isOpen v (sessionIn o) ≡ true →
+  pub repeated : (v : Voice) (o : List ℕ) → isOpen v (sessionIn o) ≡ true →
       (sequence timestamp l n d : ℕ) (fs : List Frame) → Repeat v (sessionIn o) sequence timestamp l n fs →
-      (p : List ℕ) → readAs v (sessionIn o .form) p ≡ packet l n d fs → offerOctets v o (sessionIn o .source) sequence timestamp p ≡ o
+      (p : List ℕ) → readAs (v .table) (sessionIn o .form) p ≡ packet l n d fs →
+      offerOctets v o (sessionIn o .source) sequence timestamp p ≡ o
 
 -- equal knowledge gives equal octets
 unfoldable pub EqualKnowledgeEqualOctets : Type 0
 EqualKnowledgeEqualOctets =
-    (v : FrameTable) → HasRoom v → (a b : Holding) → Box v a → Box v b → sameGroup a b ≡ true →
-    ((n : ℕ) → n < 8 → knownOf v a n ≡ knownOf v b n) → holdingLaid a ≡ holdingLaid b
+    (v : Voice) → HasRoom v → (a b : Holding) → Box v a → Box v b → sameGroup a b ≡ true →
+    ((n : ℕ) → n < packetsOf (v .shape) → knownOf v a n ≡ knownOf v b n) → holdingLaid a ≡ holdingLaid b

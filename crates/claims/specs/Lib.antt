@@ -14,5 +14,6 @@ pub mod Boxes
 pub mod Captures
 pub mod Lent
 pub mod Examples
+pub mod Faults
 pub mod Idle
 pub mod Determined

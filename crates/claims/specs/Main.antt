@@ -16,10 +16,11 @@ use Rattle.claims.specs.Sending.{WriterSends, HeaderFreeWriterSends, Wri
 use Rattle.claims.specs.Missing.{OneMissingPacket}
 use Rattle.claims.specs.Boxes.{CopiedOut, BoxesJoin}
 use Rattle.claims.specs.Joinings.{EveryOrderAndGrouping, EveryPermutation, WithItself, DifferenceEndsIn14, ElseTheyJoin}
-use Rattle.claims.specs.Joinings.{NothingLost, NothingInvented, EqualKnowledge, EveryPlaceInTime, TablesHaveRoom}
+use Rattle.claims.specs.Joinings.{NothingLost, NothingInvented, EqualKnowledge, EveryPlaceInTime, VoicesHaveRoom}
 use Rattle.claims.specs.Captures.{GroupIsRecorded, FirstSourceAlone, OthersAreNotHeard, GivesARecording, NoPacketGivesOpening}
 use Rattle.claims.specs.Captures.{NothingIsLarger, CaptureExactlyIf}
 use Rattle.claims.specs.Examples.{MarkedExamples}
+use Rattle.claims.specs.Faults.{FaultsHavePlaces}
 use Rattle.claims.specs.Idle.{RefusesEverything, PoursErasures, StoresNothing, NodsAtLater, InventsLostFrames, InventsOctetCounts}
 use Rattle.claims.specs.Determined.{Determined}
 
@@ -82,7 +83,7 @@ pub record Promised : Type 0 where
   pub nothing-invented : NothingInvented
   pub equal-knowledge : EqualKnowledge
   pub every-place-in-time : EveryPlaceInTime
-  pub tables-have-room : TablesHaveRoom
+  pub voices-have-room : VoicesHaveRoom
   -- "the outcome is what one box would hold had it heard all those packets"
   pub copied-out : CopiedOut
   pub boxes-join : BoxesJoin
@@ -96,6 +97,8 @@ pub record Promised : Type 0 where
   pub nothing-is-larger : NothingIsLarger
   -- document 01, "Marked examples"
   pub marked-examples : MarkedExamples
+  -- document 02, (i): "Refusals 4 to 8 of a payload must carry the octet place of the fault"; the calls show the refusal alone as yet
+  pub faults-have-places : FaultsHavePlaces
   -- document 01, "What the promises have to say": the idle builds, and that any two outcomes allowed are equal
   pub refuses-everything : RefusesEverything
   pub pours-erasures : PoursErasures

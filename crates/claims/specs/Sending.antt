@@ -7,6 +7,7 @@ use lib.Dec.{T}
 use lib.ListN.{length}
 use Rattle.frame.specs.declared.Vocoder.{Vocoder}
 use Rattle.frame.specs.FrameTable.{FrameTable, Frame, rowsOf, rowOf, erasure}
+use Rattle.frame.specs.Shape.{Voice, voiceWith}
 use Rattle.frame.specs.Places.{frameAt}
 use Rattle.form.specs.declared.Form.{Form}
 use Rattle.entries.specs.Kind.{Kind}
@@ -23,7 +24,7 @@ use Rattle.claims.specs.Demand3.{Sent}
 use Rattle.claims.specs.Missing.{isErasure}
 
 -- a group that was sent with these numbers, frames and payloads
-pub record SentSo (v : FrameTable) (form : Form) (source sequence timestamp l b : ℕ) (fs : List Frame) (payload : ℕ → List ℕ) : Type 0 where
+pub record SentSo (v : Voice) (form : Form) (source sequence timestamp l b : ℕ) (fs : List Frame) (payload : ℕ → List ℕ) : Type 0 where
   pub group : Sent v form
   pub its-source : group .source ≡ source
   pub its-sequence : group .sequence ≡ sequence
@@ -46,14 +47,14 @@ WriterSends =
     (kind : Kind) → T (narrow (kind .table)) → (m : Limits) (l b : ℕ) (es : List ℕ) (d : ℕ → ℕ) (payload : ℕ → List ℕ) →
     ((n : ℕ) → n ≤ l → packetMade kind (Interleaved m) l n b (d n) es ≡ octets (payload n)) →
     (source sequence timestamp : ℕ) → sequence < 65536 → timestamp < 4294967296 → (limits : Limits) → Admits limits l b →
-    SentSo (kind .table) (Interleaved limits) source sequence timestamp l b (groupIn kind es) payload
+    SentSo (voiceWith (kind .table)) (Interleaved limits) source sequence timestamp l b (groupIn kind es) payload
 
 -- and so does the header-free writer: a group of one packet of one frame
 unfoldable pub HeaderFreeWriterSends : Type 0
 HeaderFreeWriterSends =
     (kind : Kind) → T (tells (kind .table) (kind .table)) → (es w : List ℕ) → headerFreeMade kind HeaderFree es ≡ octets w →
     (source sequence timestamp : ℕ) → sequence < 65536 → timestamp < 4294967296 →
-    SentSo (kind .table) HeaderFree source sequence timestamp 0 1 (groupIn kind es) (λ n. w)
+    SentSo (voiceWith (kind .table)) HeaderFree source sequence timestamp 0 1 (groupIn kind es) (λ n. w)
 
 -- an erasure is not to be sent
 abbrev pub sentOf : Lookup → Bool

@@ -2,7 +2,7 @@
 use Prim.Native.Nat.{ℕ, zero, suc, _+_, _-_, _≤_, _<_}
 use mathlib.Core.Path.{_≡_, refl, sym, ap, _∙_}
 use mathlib.Core.List.{List, [], _∷_, _++_}
-use mathlib.Core.Bool.{Bool, true, false, cond}
+use mathlib.Core.Bool.{Bool, true, false}
 use native.Mathlib.Nat.{le-of-suc-le-suc}
 use native.Mathlib.Numerals.{add-one}
 use native.Mathlib.Omega.{arith}
@@ -12,13 +12,12 @@ use lib.Seq.{drop-cons}
 use borrow.Author.Tests.{ltb-false}
 use Rattle.octets.proofs.Logic.{apart}
 use Rattle.frame.specs.FrameTable.{Frame, known, size}
-use Rattle.answers.specs.declared.Refusal.the-variants.{ReservedType, NotSendable, BodyCut}
 use Rattle.entries.specs.Kind.{Kind}
-use Rattle.entries.specs.Entries.{EntriesRead, frames, refusedEntries, put, frameOf, entries, allowed, entriesIn, entriesOf}
+use Rattle.entries.specs.Entries.{EntriesRead, frames, put, frameOf, entries, allowed, entriesIn, entriesOf}
 use Rattle.entries.specs.Entries.{cleared}
 use Rattle.entries.specs.declared.Rule.{Rule}
 use Rattle.entries.specs.declared.Rule.the-variants.{Any}
-use Rattle.entries.proofs.Walking.{unput}
+use Rattle.entries.proofs.Walking.{unput, entryIf}
 
 pub length-cleared : (kind : Kind) (n : ℕ) (es : List ℕ) → length (cleared kind n es) ≡ length es
 unfolding cleared
@@ -26,31 +25,30 @@ length-cleared kind n [] = refl
 length-cleared kind (suc n) (x ∷ es) = ap suc (length-cleared kind n es)
 length-cleared kind zero (e ∷ es) = ap suc (length-cleared kind (size (kind .table) (kind .typeOf e)) es)
 
-clear-entry : (kind : Kind) (ok : Frame → Bool) (e : ℕ) (es : List ℕ) (fs : List Frame) (good short fine : Bool) → ltb (length es) (size (kind .table) (kind .typeOf e)) ≡ short →
-    ((gs : List Frame) → size (kind .table) (kind .typeOf e) ≤ length es → entries kind ok (size (kind .table) (kind .typeOf e)) es ≡ frames gs →
+clear-entry : (kind : Kind) (ok : Frame → Bool) (at e : ℕ) (es : List ℕ) (fs : List Frame) (good short fine : Bool) → ltb (length es) (size (kind .table) (kind .typeOf e)) ≡ short →
+    ((gs : List Frame) → size (kind .table) (kind .typeOf e) ≤ length es → entries kind ok (at + 1) (size (kind .table) (kind .typeOf e)) es ≡ frames gs →
     take (size (kind .table) (kind .typeOf e)) es ++ entriesOf gs ≡ cleared kind (size (kind .table) (kind .typeOf e)) es) →
-    cond good (cond short (refusedEntries BodyCut) (cond fine (put (frameOf kind e es) (entries kind ok (size (kind .table) (kind .typeOf e)) es)) (refusedEntries NotSendable)))
-    (refusedEntries ReservedType) ≡ frames fs →
+    entryIf at (frameOf kind e es) (entries kind ok (at + 1) (size (kind .table) (kind .typeOf e)) es) good short fine ≡ frames fs →
     entriesOf fs ≡ kind .typeOf e ∷ cleared kind (size (kind .table) (kind .typeOf e)) es
-clear-entry kind ok e es fs false short fine q i h = apart (cc)
-clear-entry kind ok e es fs true true fine q i h = apart (cc)
-clear-entry kind ok e es fs true false false q i h = apart (cc)
-clear-entry kind ok e es fs true false true q i h =
-    let u = unput _ fs (entries kind ok (size (kind .table) (kind .typeOf e)) es) h in
+clear-entry kind ok at e es fs false short fine q i h = apart (cc)
+clear-entry kind ok at e es fs true true fine q i h = apart (cc)
+clear-entry kind ok at e es fs true false false q i h = apart (cc)
+clear-entry kind ok at e es fs true false true q i h =
+    let u = unput _ fs (entries kind ok (at + 1) (size (kind .table) (kind .typeOf e)) es) h in
     ap entriesOf (u .1) ∙ ap (λ (l : List ℕ). kind .typeOf e ∷ l) (i (u .0) (ltb-false _ _ q) (u .2))
 
 -- the frames of entries, as entries again, are the entries cleared
-clears : (kind : Kind) (ok : Frame → Bool) (n : ℕ) (es : List ℕ) (fs : List Frame) → n ≤ length es → entries kind ok n es ≡ frames fs → take n es ++ entriesOf fs ≡ cleared kind n es
+clears : (kind : Kind) (ok : Frame → Bool) (at n : ℕ) (es : List ℕ) (fs : List Frame) → n ≤ length es → entries kind ok at n es ≡ frames fs → take n es ++ entriesOf fs ≡ cleared kind n es
 unfolding entries cleared
-clears kind ok zero [] fs h e = let z : fs ≡ [] = cc in ap entriesOf z
-clears kind ok (suc n) [] fs h e = absurd (omega arith)
-clears kind ok (suc n) (x ∷ es) fs h e = ap (λ (l : List ℕ). x ∷ l) (clears kind ok n es fs (le-of-suc-le-suc h) e)
-clears kind ok zero (x ∷ es) fs h e =
-    clear-entry kind ok x es fs (known (kind .table) (kind .typeOf x)) (ltb (length es) (size (kind .table) (kind .typeOf x))) (ok (frameOf kind x es)) refl
-    (clears kind ok (size (kind .table) (kind .typeOf x)) es) e
+clears kind ok at zero [] fs h e = let z : fs ≡ [] = cc in ap entriesOf z
+clears kind ok at (suc n) [] fs h e = absurd (omega arith)
+clears kind ok at (suc n) (x ∷ es) fs h e = ap (λ (l : List ℕ). x ∷ l) (clears kind ok (at + 1) n es fs (le-of-suc-le-suc h) e)
+clears kind ok at zero (x ∷ es) fs h e =
+    clear-entry kind ok at x es fs (known (kind .table) (kind .typeOf x)) (ltb (length es) (size (kind .table) (kind .typeOf x))) (ok (frameOf kind x es)) refl
+    (clears kind ok (at + 1) (size (kind .table) (kind .typeOf x)) es) e
 
-pub entries-cleared : (kind : Kind) (ok : Frame → Bool) (es : List ℕ) (fs : List Frame) → entries kind ok 0 es ≡ frames fs → entriesOf fs ≡ cleared kind 0 es
-entries-cleared kind ok es fs e = clears kind ok 0 es fs (omega arith) e
+pub entries-cleared : (kind : Kind) (ok : Frame → Bool) (at : ℕ) (es : List ℕ) (fs : List Frame) → entries kind ok at 0 es ≡ frames fs → entriesOf fs ≡ cleared kind 0 es
+entries-cleared kind ok at es fs e = clears kind ok at 0 es fs (omega arith) e
 
 -- one octet of them, behind `left` octets of a body: what it is, and what follows
 pub record Octet (kind : Kind) (es : List ℕ) (i x left : ℕ) : Type 0 where
@@ -78,23 +76,23 @@ module _ (kind : Kind) (es : List ℕ) (i : ℕ) (h : i < length es) where
   clears-octet (suc l) e p = absurd (omega arith)
 
 -- what is read under a rule is read as the same frames under none
-any-entry : (f : Frame) (w u : EntriesRead) (fs : List Frame) (good short fine : Bool) → ((gs : List Frame) → w ≡ frames gs → u ≡ frames gs) →
-    cond good (cond short (refusedEntries BodyCut) (cond fine (put f w) (refusedEntries NotSendable))) (refusedEntries ReservedType) ≡ frames fs →
-    cond good (cond short (refusedEntries BodyCut) (put f u)) (refusedEntries ReservedType) ≡ frames fs
-any-entry f w u fs false short fine i h = apart (cc)
-any-entry f w u fs true true fine i h = apart (cc)
-any-entry f w u fs true false false i h = apart (cc)
-any-entry f w u fs true false true i h =
+any-entry : (at : ℕ) (f : Frame) (w u : EntriesRead) (fs : List Frame) (good short fine : Bool) → ((gs : List Frame) → w ≡ frames gs → u ≡ frames gs) →
+    entryIf at f w good short fine ≡ frames fs →
+    entryIf at f u good short true ≡ frames fs
+any-entry at f w u fs false short fine i h = apart (cc)
+any-entry at f w u fs true true fine i h = apart (cc)
+any-entry at f w u fs true false false i h = apart (cc)
+any-entry at f w u fs true false true i h =
     let x = unput f fs w h in
     ap (put f) (i (x .0) (x .2)) ∙ ap frames (sym (x .1))
 
-any-reads : (kind : Kind) (ok : Frame → Bool) (n : ℕ) (es : List ℕ) (fs : List Frame) → entries kind ok n es ≡ frames fs → entries kind (allowed (kind .table) Any) n es ≡ frames fs
+any-reads : (kind : Kind) (ok : Frame → Bool) (at n : ℕ) (es : List ℕ) (fs : List Frame) → entries kind ok at n es ≡ frames fs → entries kind (allowed (kind .table) Any) at n es ≡ frames fs
 unfolding entries allowed
-any-reads kind ok n [] fs e = e
-any-reads kind ok (suc n) (x ∷ es) fs e = any-reads kind ok n es fs e
-any-reads kind ok zero (x ∷ es) fs e =
-    any-entry (frameOf kind x es) (entries kind ok (size (kind .table) (kind .typeOf x)) es) (entries kind (allowed (kind .table) Any) (size (kind .table) (kind .typeOf x)) es) fs
-    (known (kind .table) (kind .typeOf x)) (ltb (length es) (size (kind .table) (kind .typeOf x))) (ok (frameOf kind x es)) (any-reads kind ok (size (kind .table) (kind .typeOf x)) es) e
+any-reads kind ok at n [] fs e = e
+any-reads kind ok at (suc n) (x ∷ es) fs e = any-reads kind ok (at + 1) n es fs e
+any-reads kind ok at zero (x ∷ es) fs e =
+    any-entry at (frameOf kind x es) (entries kind ok (at + 1) (size (kind .table) (kind .typeOf x)) es) (entries kind (allowed (kind .table) Any) (at + 1) (size (kind .table) (kind .typeOf x)) es) fs
+    (known (kind .table) (kind .typeOf x)) (ltb (length es) (size (kind .table) (kind .typeOf x))) (ok (frameOf kind x es)) (any-reads kind ok (at + 1) (size (kind .table) (kind .typeOf x)) es) e
 
 pub read-any : (kind : Kind) (rule : Rule) (es : List ℕ) (fs : List Frame) → entriesIn kind rule es ≡ frames fs → entriesIn kind Any es ≡ frames fs
-read-any kind rule es fs e = any-reads kind (allowed (kind .table) rule) 0 es fs e
+read-any kind rule es fs e = any-reads kind (allowed (kind .table) rule) 0 0 es fs e

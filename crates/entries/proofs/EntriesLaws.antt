@@ -18,8 +18,8 @@ use Rattle.frame.specs.declared.Lookup.the-variants.{Found, Missing}
 use Rattle.frame.proofs.FrameTableLaws.{found-known, found-size}
 use Rattle.frame.proofs.PlacesLaws.{Laid}
 use Rattle.entries.specs.Kind.{Kind}
-use Rattle.entries.specs.Entries.{EntriesRead, frames, refusedEntries, entries, framesIn}
-use Rattle.entries.proofs.Walking.{unput, entryAt, ended, not-known, body-cut, not-allowed, next}
+use Rattle.entries.specs.Entries.{EntriesRead, frames, refusedEntries, framesIn}
+use Rattle.entries.proofs.Walking.{unput, entriesAt, entryAt, ended, not-known, body-cut, not-allowed, next}
 
 -- what stands at a place where the entries begin with a frame
 pub record Entry (kind : Kind) (ok : Frame → Bool) (p : List ℕ) (at : ℕ) (f : Frame) (fs : List Frame) : Type 0 where
@@ -30,18 +30,18 @@ pub record Entry (kind : Kind) (ok : Frame → Bool) (p : List ℕ) (at : ℕ) (
   pub octets : length (f .body) ≡ size (kind .table) (kind .typeOf (getD p at 0))
   pub inside : at + 1 + size (kind .table) (kind .typeOf (getD p at 0)) ≤ length p
   pub allowed : ok f ≡ true
-  pub rest : entries kind ok 0 (drop (at + 1 + size (kind .table) (kind .typeOf (getD p at 0))) p) ≡ frames fs
+  pub rest : entriesAt kind ok p (at + 1 + size (kind .table) (kind .typeOf (getD p at 0))) ≡ frames fs
 
-pub entry : (kind : Kind) (ok : Frame → Bool) (p : List ℕ) (at : ℕ) (f : Frame) (fs : List Frame) → entries kind ok 0 (drop at p) ≡ frames (f ∷ fs) → Entry kind ok p at f fs
+pub entry : (kind : Kind) (ok : Frame → Bool) (p : List ℕ) (at : ℕ) (f : Frame) (fs : List Frame) → entriesAt kind ok p at ≡ frames (f ∷ fs) → Entry kind ok p at f fs
 entry kind ok p at f fs e = by-place (ltb at (length p)) refl
   where
     by-rule : at < length p → (r : Row) → rowOf (kind .table) (kind .typeOf (getD p at 0)) ≡ Found r → r .octets ≤ length p - (at + 1) →
         (b : Bool) → ok (entryAt kind p at (r .octets)) ≡ b → Entry kind ok p at f fs
     by-rule h r k s false g = let q = not-allowed kind ok p at h r k s g in apart (cc)
     by-rule h r k s true g =
-        let y = unput (entryAt kind p at (r .octets)) (f ∷ fs) (entries kind ok 0 (drop (at + 1 + r .octets) p)) (sym (next kind ok p at h r k s g) ∙ e) in
+        let y = unput (entryAt kind p at (r .octets)) (f ∷ fs) (entriesAt kind ok p (at + 1 + r .octets)) (sym (next kind ok p at h r k s g) ∙ e) in
         let is : f ≡ entryAt kind p at (r .octets) = cc (y .1) in
-        let behind : entries kind ok 0 (drop (at + 1 + r .octets) p) ≡ frames fs = y .2 ∙ ap frames (cc (y .1)) in
+        let behind : entriesAt kind ok p (at + 1 + r .octets) ≡ frames fs = y .2 ∙ ap frames (cc (y .1)) in
         let z = found-size (kind .table) (kind .typeOf (getD p at 0)) r k in
         let b : f .body ≡ take (size (kind .table) (kind .typeOf (getD p at 0))) (drop (at + 1) p) =
         ap (λ (x : Frame). x .body) is ∙ ap (λ (i : ℕ). take i (drop (at + 1) p)) (add-sub-cancel-left (at + 1) (r .octets) ∙ sym z) in
@@ -69,7 +69,7 @@ entry kind ok p at f fs e = by-place (ltb at (length p)) refl
     by-place false q = let x = ended kind ok p at (ltb-false _ _ q) in apart (cc)
 
 -- the frames of entries lie in them
-pub entries-laid : (kind : Kind) (ok : Frame → Bool) (p : List ℕ) (head : ℕ) (fs : List Frame) → entries kind ok 0 (drop head p) ≡ frames fs → Laid p head 1 fs
+pub entries-laid : (kind : Kind) (ok : Frame → Bool) (p : List ℕ) (head : ℕ) (fs : List Frame) → entriesAt kind ok p head ≡ frames fs → Laid p head 1 fs
 entries-laid kind ok p head [] e = tt
 entries-laid kind ok p head (f ∷ fs) e =
     let x = entry kind ok p head f fs e in (
@@ -82,19 +82,19 @@ entries-laid kind ok p head (f ∷ fs) e =
 walks :
     (kind : Kind) (ok : Frame → Bool) (p : List ℕ) (h : ℕ) (fs : List Frame) (i : ℕ) →
     i ≤ length fs →
-    entries kind ok 0 (drop h p) ≡ frames fs →
-    entries kind ok 0 (drop (h + taken 1 (take i fs)) p) ≡ frames (drop i fs)
+    entriesAt kind ok p h ≡ frames fs →
+    entriesAt kind ok p (h + taken 1 (take i fs)) ≡ frames (drop i fs)
 walks kind ok p h fs zero q e = rw add-zero e
 walks kind ok p h [] (suc i) q e = absurd (omega arith)
 walks kind ok p h (f ∷ fs) (suc i) q e =
     let x = entry kind ok p h f fs e in
     let r = walks kind ok p (h + 1 + size (kind .table) (kind .typeOf (getD p h 0))) fs i (le-of-suc-le-suc q) (x .rest) in
     let n : h + (1 + length (f .body) + taken 1 (take i fs)) ≡ h + 1 + size (kind .table) (kind .typeOf (getD p h 0)) + taken 1 (take i fs) = omega (arith, x .octets) in
-    ap (λ (j : ℕ). entries kind ok 0 (drop j p)) n ∙ r
+    ap (λ (j : ℕ). entriesAt kind ok p j) n ∙ r
 
 pub entry-of :
     (kind : Kind) (ok : Frame → Bool) (p : List ℕ) (h : ℕ) (fs : List Frame) (k : ℕ) →
-    entries kind ok 0 (drop h p) ≡ frames fs →
+    entriesAt kind ok p h ≡ frames fs →
     k < length fs →
     Entry kind ok p (h + taken 1 (take k fs)) (frameAt fs k) (drop (suc k) fs)
 entry-of kind ok p h fs k e q =
@@ -108,4 +108,4 @@ taken-suc gap (f ∷ fs) (suc k) h = let i = taken-suc gap fs k (le-of-suc-le-su
 pub are-frames : (w : EntriesRead) (k : ℕ) → k < length (framesIn w) → w ≡ frames (framesIn w)
 unfolding framesIn
 are-frames (frames fs) k h = refl
-are-frames (refusedEntries r) k h = absurd (omega arith)
+are-frames (refusedEntries f) k h = absurd (omega arith)

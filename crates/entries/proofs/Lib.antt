@@ -1,4 +1,5 @@
 pub mod Walking
+pub mod Moving
 pub mod Clearing
 pub mod EntriesLaws
 pub mod Seeking

@@ -4,6 +4,7 @@ use mathlib.Core.Bool.{Bool, cond, _&&_}
 use lib.Dec.{leb}
 use Rattle.answers.specs.declared.Refusal.the-variants.{NotApplicable}
 use Rattle.frame.specs.FrameTable.{FrameTable, rowsOf}
+use Rattle.frame.specs.Shape.{Voice, voiceWith}
 use Rattle.frame.specs.declared.Vocoder.{Vocoder}
 use Rattle.frame.specs.declared.Vocoder.the-variants.{Evrc}
 use Rattle.form.specs.declared.Limits.{Limits}
@@ -34,6 +35,10 @@ opened l b =
 abbrev pub vocoderOf : Form → Vocoder
 vocoderOf form = Evrc
 
--- and its frame table
+-- its frame table
 abbrev pub tableOf : Form → FrameTable
 tableOf form = rowsOf (vocoderOf form)
+
+-- and its voice in a session, which has a holding
+abbrev pub voiceFor : Form → Voice
+voiceFor form = voiceWith (tableOf form)

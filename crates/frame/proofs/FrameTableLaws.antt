@@ -12,6 +12,7 @@ use borrow.Author.Tests.{eq-eqb, ne-eqb, eqb-true}
 use Rattle.octets.proofs.Logic.{apart, both-hold, hold-true}
 use Rattle.frame.specs.FrameTable.{FrameTable, evrc, rowsOf, rowOf, rowOfSize, rowWith, isThere, octetsOf, known, size, within, erasure, erases}
 use Rattle.frame.specs.FrameTable.{single, lowBits, sendable}
+use Rattle.frame.specs.Shape.{packetsOf, shapeOf}
 use Rattle.frame.specs.declared.Row.{Row}
 use Rattle.frame.specs.declared.Vocoder.{Vocoder}
 use Rattle.frame.specs.declared.Vocoder.the-variants.{Evrc}
@@ -39,13 +40,35 @@ pub in-any-by-size : (v : Vocoder) (n : ℕ) (l : Lookup) → l ≡ rowOfSize ev
 unfolding rowsOf
 in-any-by-size Evrc n l e = e
 
--- of the table of every vocoder: no body is longer than 22 octets
+-- of the table of every vocoder: no body is longer than 22 octets, nor than a cell of its groups
 pub rows-within : (v : Vocoder) → T (within 22 (rowsOf v))
 unfolding rowsOf
 rows-within Evrc = tt
 
 pub rows-size : (v : Vocoder) (t : ℕ) → size (rowsOf v) t ≤ 22
 rows-size v t = size-within 22 (rowsOf v) t (rows-within v)
+
+pub rows-fit : (v : Vocoder) → T (within (shapeOf v .cell) (rowsOf v))
+unfolding rowsOf shapeOf
+rows-fit Evrc = tt
+
+pub row-fits : (v : Vocoder) (t : ℕ) → size (rowsOf v) t ≤ shapeOf v .cell
+row-fits v t = size-within (shapeOf v .cell) (rowsOf v) t (rows-fit v)
+
+-- the shape of any, as the code tells it, and its bounds
+pub cell-any : (v : Vocoder) → 22 ≡ shapeOf v .cell
+unfolding shapeOf
+cell-any Evrc = refl
+
+pub packets-any : (v : Vocoder) → 8 ≡ packetsOf (shapeOf v)
+unfolding shapeOf
+packets-any Evrc = refl
+
+pub cell-small : (v : Vocoder) → shapeOf v .cell ≤ 255
+cell-small v = omega (arith, cell-any v)
+
+pub packets-few : (v : Vocoder) → packetsOf (shapeOf v) ≤ 8
+packets-few v = omega (arith, packets-any v)
 
 -- what a lookup says of the type
 pub found-known : (v : FrameTable) (t : ℕ) (r : Row) → rowOf v t ≡ Found r → known v t ≡ true
@@ -56,6 +79,9 @@ found-size v t r e = ap octetsOf e
 
 pub rows-found : (v : Vocoder) (t : ℕ) (r : Row) → rowOf (rowsOf v) t ≡ Found r → r .octets ≤ 22
 rows-found v t r e = rw (found-size (rowsOf v) t r e) at (rows-size v t)
+
+pub found-fits : (v : Vocoder) (t : ℕ) (r : Row) → rowOf (rowsOf v) t ≡ Found r → r .octets ≤ shapeOf v .cell
+found-fits v t r e = rw (found-size (rowsOf v) t r e) at (row-fits v t)
 
 -- the lowest bits of an octet
 pub all-bits : (x bits : ℕ) → x < 256 → 8 ≤ bits → x ≡ lowBits x bits

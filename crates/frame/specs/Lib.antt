@@ -1,3 +1,4 @@
 pub mod FrameTable
+pub mod Shape
 pub mod Entry
 pub mod Places

@@ -2,6 +2,7 @@
 use answers::Refusal;
 ghost use mathlib.Core.Path.{_≡_};
 ghost use Rattle.frame.specs.FrameTable.{evrc, rowsOf, rowOf, rowOfSize, size, lowBits, sendable};
+ghost use Rattle.frame.specs.Shape.{packetsOf, shapeOf};
 ghost use Rattle.frame.specs.Places.{partStart, partOf, VeryPart};
 
 // A row of a frame table: a type, the octets of its body, the low bits of the last octet that are zero when sent, and
@@ -69,6 +70,24 @@ pub fn row_of(vocoder: Vocoder, kind: u8) -> Lookup
 {
     match vocoder {
         Vocoder::Evrc => evrc_row(kind),
+    }
+}
+
+// The octets of a cell, the room of one frame, in a vocoder's groups.
+pub fn cell_of(vocoder: Vocoder) -> usize
+    ensures { λ r. ⌜ r ≡ shapeOf vocoder .cell ⌝ }
+{
+    match vocoder {
+        Vocoder::Evrc => 22,
+    }
+}
+
+// The packets of the longest group of a vocoder.
+pub fn packets_of(vocoder: Vocoder) -> usize
+    ensures { λ r. ⌜ r ≡ packetsOf (shapeOf vocoder) ⌝ }
+{
+    match vocoder {
+        Vocoder::Evrc => 8,
     }
 }
 

@@ -1,39 +1,58 @@
 -- Laws of a holding that the functions' proofs cite. Assumes nothing.
-use Prim.Native.Nat.{ℕ, _-_, _≤_, _<_}
+use Prim.Native.Nat.{ℕ, _+_, _-_, _*_, _≤_, _<_}
 use mathlib.Core.Bool.{Bool, true, false, _&&_}
-use mathlib.Core.Path.{_≡_, refl, sym, ap, _∙_}
+use mathlib.Core.Path.{_≡_, refl, sym, ap, ap₂, _∙_}
+use mathlib.Core.List.{List}
 use native.Mathlib.Omega.{arith}
-use lib.ListN.{getD}
+use native.Mathlib.Nat.{mul-le-mul-left}
+use lib.ListN.{getD, replicate}
 use lib.Dec.{eqb, leb}
 use borrow.Author.Tests.{eq-eqb, ne-eqb, le-leb, lt-leb, leb-true}
 use Rattle.octets.specs.Octets.{allZero, anySet, sameOctets, allBelow}
-use Rattle.octets.proofs.Logic.{both-true}
-use Rattle.frame.specs.FrameTable.{FrameTable}
+use Rattle.octets.proofs.Logic.{both-true, both-false}
+use Rattle.octets.proofs.OctetsLaws.{same-refl, zero-list, none-set}
+use Rattle.frame.specs.FrameTable.{erasure}
+use Rattle.frame.specs.Shape.{Shape, Voice, packetsOf, roomOf, shapeOf}
 use Rattle.bundle.specs.Bundles.{bundleIn, notHeld, sameBundles, framesRight}
 use Rattle.bundle.specs.declared.Bundle.{Bundle}
-use Rattle.octets.proofs.Regions.{cut-is, cutAt}
-use Rattle.holding.specs.Group.{begun, nothing, bare, isNothing, heldAt, bundleAt, packetRight, rightAt, sound, holds}
+use Rattle.octets.proofs.Regions.{region-fits, cut-is, cutAt}
+use Rattle.frame.proofs.FrameTableLaws.{cell-small, packets-few}
+use Rattle.frame.specs.declared.Vocoder.{Vocoder}
+use Rattle.holding.specs.Group.{begun, nothing, bare, isNothing, heldAt, bundleOf, packetRight, rightIn, rightAt, sound, holds}
 use Rattle.holding.specs.declared.Holding.{Holding}
 
+-- packet n's cells lie in the room of a vocoder's groups, which is not large
+pub packet-in :
+    (v : Vocoder) (c p n r : ℕ) → c ≡ shapeOf v .cell → p ≡ packetsOf (shapeOf v) → n < p → r ≡ roomOf (shapeOf v) * packetsOf (shapeOf v) →
+    (c * 10 * n + c * 10 ≤ r) × (r ≤ 20400)
+packet-in v c p n r e f h l =
+    let a : c * 10 * n + c * 10 ≤ c * 10 * p = region-fits (c * 10) n p h in
+    let b : c * 10 * p ≡ r = ap₂ (λ (i j : ℕ). i * 10 * j) e f ∙ sym l in
+    let few : p ≤ 8 = omega (arith, packets-few v) in
+    let m : c * 10 * p ≤ c * 10 * 8 = mul-le-mul-left (c * 10) few in
+    (omega arith, omega (arith, cell-small v))
+
 -- packet n, as the code cuts it
-packet-cut : (h : Holding) (n : ℕ) → bundleIn (cutAt (h .marks) 10 n) (cutAt (h .room) 220 n) ≡ bundleAt h n
-unfolding bundleAt
-packet-cut h n = rw (cut-is (h .marks) 10 n, cut-is (h .room) 220 n)
+pub packet-cut : (v : Shape) (ms rs : List ℕ) (n : ℕ) → bundleIn (cutAt ms 10 n) (cutAt rs (roomOf v) n) ≡ bundleOf v ms rs n
+unfolding bundleOf
+packet-cut v ms rs n = rw (cut-is ms 10 n, cut-is rs (roomOf v) n)
 
 pub packets-cut :
-    (h : Holding) (n : ℕ) (p : Bundle) →
-    sameBundles (bundleIn (cutAt (h .marks) 10 n) (cutAt (h .room) 220 n)) p ≡ sameBundles (bundleAt h n) p
-packets-cut h n p = ap (λ (q : Bundle). sameBundles q p) (packet-cut h n)
+    (v : Shape) (ms rs : List ℕ) (n : ℕ) (p : Bundle) →
+    sameBundles (bundleIn (cutAt ms 10 n) (cutAt rs (roomOf v) n)) p ≡ sameBundles (bundleOf v ms rs n) p
+packets-cut v ms rs n p = ap (λ (q : Bundle). sameBundles q p) (packet-cut v ms rs n)
 
 pub right-cut :
-    (v : FrameTable) (h : Holding) (n : ℕ) →
-    packetRight v (h .l) (h .b) n (getD (h .held) n false) (bundleIn (cutAt (h .marks) 10 n) (cutAt (h .room) 220 n)) ≡ rightAt v h n
-unfolding rightAt heldAt
-right-cut v h n = ap (packetRight v (h .l) (h .b) n (getD (h .held) n false)) (packet-cut h n)
+    (v : Voice) (l b : ℕ) (hs : List Bool) (ms rs : List ℕ) (n c : ℕ) → c ≡ roomOf (v .shape) →
+    packetRight v l b n (getD hs n false) (bundleIn (cutAt ms 10 n) (cutAt rs c n)) ≡ rightIn v l b hs ms rs n
+unfolding rightIn
+right-cut v l b hs ms rs n c e =
+    ap (λ (i : ℕ). packetRight v l b n (getD hs n false) (bundleIn (cutAt ms 10 n) (cutAt rs i n))) e
+    ∙ ap (packetRight v l b n (getD hs n false)) (packet-cut (v .shape) ms rs n)
 
 -- ---- a packet keeps the rule
 
-module _ (v : FrameTable) (l b n : ℕ) (held : Bool) (p : Bundle) where
+module _ (v : Voice) (l b n : ℕ) (held : Bool) (p : Bundle) where
   pub packet-above : held ≡ true → l < n → false ≡ packetRight v l b n held p
   unfolding packetRight
   packet-above e k = simp (e, lt-leb n l k)
@@ -42,60 +61,66 @@ module _ (v : FrameTable) (l b n : ℕ) (held : Bool) (p : Bundle) where
   unfolding packetRight
   packet-held e k = simp (e, le-leb n l k)
 
-  pub packet-lost : held ≡ false → sameBundles p notHeld ≡ packetRight v l b n held p
+  pub packet-lost : held ≡ false → sameBundles p (notHeld (v .shape)) ≡ packetRight v l b n held p
   unfolding packetRight
   packet-lost e = simp e
 
 -- ---- the rule of a holding
 
-module _ (v : FrameTable) (h : Holding) where
-  pub sound-long : 7 < h .l → false ≡ sound v h
+module _ (v : Voice) (h : Holding) where
+  pub sound-long : v .shape .greatest < h .l → false ≡ sound v h
   unfolding sound
   sound-long p = simp (lt-leb _ _ p)
 
-  pub sound-none : h .l ≤ 7 → h .b < 1 → false ≡ sound v h
+  pub sound-none : h .l ≤ v .shape .greatest → h .b < 1 → false ≡ sound v h
   unfolding sound
   sound-none p q = simp (le-leb _ _ p, lt-leb _ _ q)
 
-  pub sound-many : h .l ≤ 7 → 1 ≤ h .b → 10 < h .b → false ≡ sound v h
+  pub sound-many : h .l ≤ v .shape .greatest → 1 ≤ h .b → 10 < h .b → false ≡ sound v h
   unfolding sound
   sound-many p q r = simp (le-leb _ _ p, le-leb _ _ q, lt-leb _ _ r)
 
-  pub sound-packets : h .l ≤ 7 → 1 ≤ h .b → h .b ≤ 10 → allBelow (rightAt v h) 8 ≡ sound v h
-  unfolding sound
+  pub sound-packets : h .l ≤ v .shape .greatest → 1 ≤ h .b → h .b ≤ 10
+      → allBelow (rightIn v (h .l) (h .b) (h .held) (h .marks) (h .room)) (packetsOf (v .shape)) ≡ sound v h
+  unfolding sound rightIn rightAt heldAt
   sound-packets p q r = simp (le-leb _ _ p, le-leb _ _ q, le-leb _ _ r)
 
 -- what a holding that keeps the rule has
-pub record Sound (v : FrameTable) (h : Holding) : Type 0 where
-  pub low : h .l ≤ 7
+pub record Sound (v : Voice) (h : Holding) : Type 0 where
+  pub low : h .l ≤ v .shape .greatest
   pub some : 1 ≤ h .b
   pub few : h .b ≤ 10
-  pub packets : allBelow (rightAt v h) 8 ≡ true
+  pub packets : allBelow (rightAt v h) (packetsOf (v .shape)) ≡ true
 
-pub sound-has : (v : FrameTable) (h : Holding) → sound v h ≡ true → Sound v h
+pub sound-has : (v : Voice) (h : Holding) → sound v h ≡ true → Sound v h
 unfolding sound
 sound-has v h e =
-    let x = leb (h .l) 7 in
+    let x = leb (h .l) (v .shape .greatest) in
     let y = leb 1 (h .b) in
     let z = leb (h .b) 10 in
-    let w = allBelow (rightAt v h) 8 in
+    let w = allBelow (rightAt v h) (packetsOf (v .shape)) in
     let p = both-true (x && y && z) w e in
     let q = both-true (x && y) z (p .0) in
     let r = both-true x y (q .0) in
     record { low = leb-true _ _ (r .0); some = leb-true _ _ (r .1); few = leb-true _ _ (q .1); packets = p .1 }
 
-pub has-sound : (v : FrameTable) (h : Holding) → Sound v h → sound v h ≡ true
+pub has-sound : (v : Voice) (h : Holding) → Sound v h → sound v h ≡ true
 unfolding sound
 has-sound v h s = simp (le-leb _ _ (s .low), le-leb _ _ (s .some), le-leb _ _ (s .few), s .packets)
 
-pub holds-sound : (v : FrameTable) (h : Holding) → holds v h ≡ true → (sound v h ≡ true) × (anySet (h .held) ≡ true)
+pub holds-sound : (v : Voice) (h : Holding) → holds v h ≡ true → (sound v h ≡ true) × (anySet (h .held) ≡ true)
 unfolding holds
 holds-sound v h e = both-true (sound v h) (anySet (h .held)) e
 
 -- nothing is nothing
-pub nothing-is : isNothing nothing ≡ true
-unfolding isNothing nothing begun bare anySet allZero sameOctets
-nothing-is = refl
+pub nothing-is : (v : Shape) → isNothing v (nothing v) ≡ true
+unfolding isNothing nothing begun bare
+nothing-is v =
+    rw (none-set (packetsOf v), same-refl (replicate (10 * packetsOf v) erasure), zero-list (roomOf v * packetsOf v))
+
+pub nothing-held : (v : Voice) (u : Shape) → holds v (nothing u) ≡ false
+unfolding holds nothing begun
+nothing-held v u = rw (none-set (packetsOf u)) (both-false (sound v (nothing u)))
 
 -- a holding that keeps the rule is not that of nothing: its B is not 0
 and-false : (a b c d e f : Bool) → e ≡ false → a && (b && (c && (d && (e && f)))) ≡ false
@@ -105,50 +130,50 @@ and-false true true false d e f h = refl
 and-false true true true false e f h = refl
 and-false true true true true e f h = rw h
 
-pub sound-something : (v : FrameTable) (h : Holding) → Sound v h → isNothing h ≡ false
+pub sound-something : (v : Voice) (h : Holding) → Sound v h → isNothing (v .shape) h ≡ false
 unfolding isNothing
 sound-something v h s =
     let b : h .b ≡ 0 → ⊥ = λ (e : h .b ≡ 0). absurd (omega (arith, s .some)) in
-    and-false (eqb (h .source) 0) (eqb (h .sequence) 0) (eqb (h .timestamp) 0) (eqb (h .l) 0) (eqb (h .b) 0) (bare h) (ne-eqb (h .b) 0 b)
+    and-false (eqb (h .source) 0) (eqb (h .sequence) 0) (eqb (h .timestamp) 0) (eqb (h .l) 0) (eqb (h .b) 0) (bare (v .shape) h) (ne-eqb (h .b) 0 b)
 
 -- ---- a holding of nothing, test by test
-module _ (h : Holding) where
-  pub has-source : (h .source ≡ 0 → ⊥) → false ≡ isNothing h
+module _ (v : Shape) (h : Holding) where
+  pub has-source : (h .source ≡ 0 → ⊥) → false ≡ isNothing v h
   unfolding isNothing
   has-source n = simp (ne-eqb _ _ n)
 
   module _ (a : h .source ≡ 0) where
-    pub has-sequence : (h .sequence ≡ 0 → ⊥) → false ≡ isNothing h
+    pub has-sequence : (h .sequence ≡ 0 → ⊥) → false ≡ isNothing v h
     unfolding isNothing
     has-sequence n = simp (eq-eqb _ _ a, ne-eqb _ _ n)
 
     module _ (b : h .sequence ≡ 0) where
-      pub has-timestamp : (h .timestamp ≡ 0 → ⊥) → false ≡ isNothing h
+      pub has-timestamp : (h .timestamp ≡ 0 → ⊥) → false ≡ isNothing v h
       unfolding isNothing
       has-timestamp n = simp (eq-eqb _ _ a, eq-eqb _ _ b, ne-eqb _ _ n)
 
       module _ (c : h .timestamp ≡ 0) where
-        pub has-length : (h .l ≡ 0 → ⊥) → false ≡ isNothing h
+        pub has-length : (h .l ≡ 0 → ⊥) → false ≡ isNothing v h
         unfolding isNothing
         has-length n = simp (eq-eqb _ _ a, eq-eqb _ _ b, eq-eqb _ _ c, ne-eqb _ _ n)
 
         module _ (d : h .l ≡ 0) where
-          pub has-bundle : (h .b ≡ 0 → ⊥) → false ≡ isNothing h
+          pub has-bundle : (h .b ≡ 0 → ⊥) → false ≡ isNothing v h
           unfolding isNothing
           has-bundle n = simp (eq-eqb _ _ a, eq-eqb _ _ b, eq-eqb _ _ c, eq-eqb _ _ d, ne-eqb _ _ n)
 
-          pub is-blank : h .b ≡ 0 → bare h ≡ isNothing h
+          pub is-blank : h .b ≡ 0 → bare v h ≡ isNothing v h
           unfolding isNothing
           is-blank e = simp (eq-eqb _ _ a, eq-eqb _ _ b, eq-eqb _ _ c, eq-eqb _ _ d, eq-eqb _ _ e)
 
-  pub blank-held : anySet (h .held) ≡ true → false ≡ bare h
+  pub blank-held : anySet (h .held) ≡ true → false ≡ bare v h
   unfolding bare
   blank-held e = simp e
 
-  pub blank-marked : anySet (h .held) ≡ false → (t : Bool) → t ≡ sameOctets (h .marks) (nothing .marks) → t ≡ false → false ≡ bare h
+  pub blank-marked : anySet (h .held) ≡ false → (t : Bool) → t ≡ sameOctets (h .marks) (nothing v .marks) → t ≡ false → false ≡ bare v h
   unfolding bare
   blank-marked e t q f = simp (e, sym q ∙ f)
 
-  pub blank-room : anySet (h .held) ≡ false → (t : Bool) → t ≡ sameOctets (h .marks) (nothing .marks) → t ≡ true → allZero (h .room) ≡ bare h
+  pub blank-room : anySet (h .held) ≡ false → (t : Bool) → t ≡ sameOctets (h .marks) (nothing v .marks) → t ≡ true → allZero (h .room) ≡ bare v h
   unfolding bare
   blank-room e t q f = simp (e, sym q ∙ f)

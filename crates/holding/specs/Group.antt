@@ -1,14 +1,17 @@
--- Document 01, "Groups": a holding is one group as far as heard, over any frame table.
--- Frame k of packet n has its type at marks 10 n + k and its body in the 22 octets from 220 n + 22 k on: a packet is one region.
+-- Document 01, "Groups": a holding is one group as far as heard, over any shape and frame table: ten frames to a packet, each in a cell.
+-- The record that the code declares has lists here, of any length: how long they are is said of a shape. A struct with other arrays is
+-- read into the same record, and all that follows holds of it.
 use Prim.Native.Nat.{ℕ, _*_}
 use mathlib.Core.Bool.{Bool, true, false, not, cond, _&&_}
+use mathlib.Core.List.{List}
 use mathlib.Core.Path.{_≡_}
 use lib.ListN.{length, getD, set, replicate}
 use lib.Dec.{eqb, leb}
 use Rattle.octets.specs.Octets.{over, sameOctets, allZero, anySet, allBelow, region}
 use Rattle.frame.specs.declared.Vocoder.{Vocoder}
 use Rattle.frame.specs.declared.Vocoder.the-variants.{Evrc}
-use Rattle.frame.specs.FrameTable.{rowsOf, FrameTable, erasure}
+use Rattle.frame.specs.FrameTable.{rowsOf, erasure}
+use Rattle.frame.specs.Shape.{Shape, Voice, packetsOf, roomOf, voiceWith}
 use Rattle.numbers.specs.declared.GroupNumbers.{GroupNumbers}
 use Rattle.bundle.specs.declared.Bundle.{Bundle}
 use Rattle.bundle.specs.Bundles.{bundleIn, framesRight, notHeld, sameBundles}
@@ -16,24 +19,28 @@ use Rattle.holding.specs.declared.Holding.{Holding}
 
 -- ---- a holding
 
--- as long as its type makes it: a definition over lists has to say so
-pub record Shaped (h : Holding) : Type 0 where
-  pub long-held : length (h .held) ≡ 8
-  pub long-marks : length (h .marks) ≡ 80
-  pub long-room : length (h .room) ≡ 1760
+-- as long as a shape makes them: a flag for each packet, a type and a cell for each frame
+pub record Spans (shape : Shape) (hs : List Bool) (ms rs : List ℕ) : Type 0 where
+  pub long-held : length hs ≡ packetsOf shape
+  pub long-marks : length ms ≡ 10 * packetsOf shape
+  pub long-room : length rs ≡ roomOf shape * packetsOf shape
+
+-- a holding is
+abbrev pub Shaped : Shape → Holding → Type 0
+Shaped shape h = Spans shape (h .held) (h .marks) (h .room)
 
 -- a group of which no packet is held yet
-unfoldable pub begun : ℕ → ℕ → ℕ → ℕ → ℕ → Holding
-begun source sequence timestamp l b =
+unfoldable pub begun : Shape → ℕ → GroupNumbers → Holding
+begun shape source g =
     record {
       source = source;
-      sequence = sequence;
-      timestamp = timestamp;
-      l = l;
-      b = b;
-      held = replicate 8 false;
-      marks = replicate 80 erasure;
-      room = replicate 1760 0;
+      sequence = g .sequence;
+      timestamp = g .timestamp;
+      l = g .l;
+      b = g .b;
+      held = replicate (packetsOf shape) false;
+      marks = replicate (10 * packetsOf shape) erasure;
+      room = replicate (roomOf shape * packetsOf shape) 0;
     }
 
 -- the numbers of its group: "base sequence number, base timestamp, L, B"
@@ -41,29 +48,33 @@ unfoldable pub numbersOf : Holding → GroupNumbers
 numbersOf h = record { sequence = h .sequence; timestamp = h .timestamp; l = h .l; b = h .b }
 
 -- nothing held
-unfoldable pub nothing : Holding
-nothing = begun 0 0 0 0 0
+unfoldable pub nothing : Shape → Holding
+nothing shape = begun shape 0 (record { sequence = 0; timestamp = 0; l = 0; b = 0 })
 
 -- no packet is held, every place reads as an erasure, and all room is zero
-unfoldable pub bare : Holding → Bool
-bare h = not (anySet (h .held)) && (sameOctets (h .marks) (nothing .marks) && allZero (h .room))
+unfoldable pub bare : Shape → Holding → Bool
+bare shape h = not (anySet (h .held)) && (sameOctets (h .marks) (nothing shape .marks) && allZero (h .room))
 
 -- a holding is that of nothing, as a test
-unfoldable pub isNothing : Holding → Bool
-isNothing h =
-    eqb (h .source) 0 && (eqb (h .sequence) 0 && (eqb (h .timestamp) 0 && (eqb (h .l) 0 && (eqb (h .b) 0 && bare h))))
+unfoldable pub isNothing : Shape → Holding → Bool
+isNothing shape h =
+    eqb (h .source) 0 && (eqb (h .sequence) 0 && (eqb (h .timestamp) 0 && (eqb (h .l) 0 && (eqb (h .b) 0 && bare shape h))))
 
 -- whether packet n is held
 unfoldable pub heldAt : Holding → ℕ → Bool
 heldAt h n = getD (h .held) n false
 
+-- packet n's frames, of these types and cells: a packet is one region of them
+unfoldable pub bundleOf : Shape → List ℕ → List ℕ → ℕ → Bundle
+bundleOf shape ms rs n = bundleIn (region ms 10 n) (region rs (roomOf shape) n)
+
 -- packet n's frames
-unfoldable pub bundleAt : Holding → ℕ → Bundle
-bundleAt h n = bundleIn (region (h .marks) 10 n) (region (h .room) 220 n)
+abbrev pub bundleAt : Shape → Holding → ℕ → Bundle
+bundleAt shape h n = bundleOf shape (h .marks) (h .room) n
 
 -- packet n put in
-unfoldable pub withPacket : Holding → ℕ → Bundle → Holding
-withPacket h n p =
+unfoldable pub withPacket : Shape → Holding → ℕ → Bundle → Holding
+withPacket shape h n p =
     record {
       source = h .source;
       sequence = h .sequence;
@@ -72,29 +83,33 @@ withPacket h n p =
       b = h .b;
       held = set (h .held) n true;
       marks = over (h .marks) (10 * n) (p .marks);
-      room = over (h .room) (220 * n) (p .room);
+      room = over (h .room) (roomOf shape * n) (p .room);
     }
 
 -- the vocoder of the frames of a holding: EVRC, as yet of each
 abbrev pub vocoderIn : Holding → Vocoder
 vocoderIn h = Evrc
 
--- and its frame table
-abbrev pub tableOf : Holding → FrameTable
-tableOf h = rowsOf (vocoderIn h)
+-- and its voice
+abbrev pub voiceIn : Holding → Voice
+voiceIn h = voiceWith (rowsOf (vocoderIn h))
 
 -- packet n of a group of l and b keeps the rule: held, it is none "above L" and its frames keep it; not held, it reads as erasures
-unfoldable pub packetRight : FrameTable → ℕ → ℕ → ℕ → Bool → Bundle → Bool
-packetRight v l b n held p = cond held (leb n l && framesRight v b p) (sameBundles p notHeld)
+unfoldable pub packetRight : Voice → ℕ → ℕ → ℕ → Bool → Bundle → Bool
+packetRight v l b n held p = cond held (leb n l && framesRight v b p) (sameBundles p (notHeld (v .shape)))
+
+-- packet n keeps the rule, of a group of l and b with these flags, types and cells
+unfoldable pub rightIn : Voice → ℕ → ℕ → List Bool → List ℕ → List ℕ → ℕ → Bool
+rightIn v l b hs ms rs n = packetRight v l b n (getD hs n false) (bundleOf (v .shape) ms rs n)
 
 -- packet n of a holding keeps the rule
-unfoldable pub rightAt : FrameTable → Holding → ℕ → Bool
-rightAt v h n = packetRight v (h .l) (h .b) n (heldAt h n) (bundleAt h n)
+unfoldable pub rightAt : Voice → Holding → ℕ → Bool
+rightAt v h n = packetRight v (h .l) (h .b) n (heldAt h n) (bundleAt (v .shape) h n)
 
 -- what breaks it: "L above 7, B not 1 to 10", and a packet that breaks the rule
-unfoldable pub sound : FrameTable → Holding → Bool
-sound v h = leb (h .l) 7 && leb 1 (h .b) && leb (h .b) 10 && allBelow (rightAt v h) 8
+unfoldable pub sound : Voice → Holding → Bool
+sound v h = leb (h .l) (v .shape .greatest) && leb 1 (h .b) && leb (h .b) 10 && allBelow (rightAt v h) (packetsOf (v .shape))
 
 -- "A holding that breaks this .. counts as holding no packet."
-unfoldable pub holds : FrameTable → Holding → Bool
+unfoldable pub holds : Voice → Holding → Bool
 holds v h = sound v h && anySet (h .held)

@@ -6,10 +6,10 @@ ghost use mathlib.Core.Path.{_≡_};
 ghost use Prim.Native.Nat.{_<_};
 ghost use lib.ListN.{length};
 ghost use Rattle.bundle.specs.Bundles.{bundleIn, sameBundles};
-ghost use Rattle.frame.specs.FrameTable.{rowsOf};
+ghost use Rattle.frame.specs.Shape.{holdingShape, packetsOf, roomOf, shapeOf, voiceOf};
 ghost use Rattle.octets.specs.Octets.{allBelow};
-ghost use Rattle.holding.specs.Group.{tableOf, nothing, begun, numbersOf, bare, isNothing, heldAt, bundleAt, withPacket};
-ghost use Rattle.holding.specs.Group.{packetRight, rightAt, sound, holds};
+ghost use Rattle.holding.specs.Group.{Spans, voiceIn, nothing, begun, numbersOf, bare, isNothing, heldAt, bundleAt, withPacket};
+ghost use Rattle.holding.specs.Group.{packetRight, rightIn, sound, holds};
 
 // One group as far as heard. Frame k of packet n has its type at marks[10 * n + k] and its body at room[220 * n + 22 * k ..].
 pub struct Holding {
@@ -25,31 +25,31 @@ pub struct Holding {
 
 // The types of a group of which nothing is held: erasures.
 fn no_marks() -> [u8; 80]
-    ensures { λ r. ⌜ r ≡ nothing .marks ⌝ }
+    ensures { λ r. ⌜ r ≡ nothing holdingShape .marks ⌝ }
 {
     [14u8; 80]
 }
 
 // The room of a group of which nothing is held: zeros.
 fn no_room() -> [u8; 1760]
-    ensures { λ r. ⌜ r ≡ nothing .room ⌝ }
+    ensures { λ r. ⌜ r ≡ nothing holdingShape .room ⌝ }
 {
     [0u8; 1760]
 }
 
 // A group of which no packet is held yet.
-pub fn begin(source: u32, sequence: u16, timestamp: u32, l: u8, b: u8) -> Holding
-    ensures { λ r. ⌜ r ≡ begun source sequence timestamp l b ⌝ }
+pub fn begin(source: u32, numbers: GroupNumbers) -> Holding
+    ensures { λ r. ⌜ r ≡ begun holdingShape source numbers ⌝ }
 {
     let held = [false; 8];
     let marks = no_marks();
     let room = no_room();
     Holding {
         source,
-        sequence,
-        timestamp,
-        l,
-        b,
+        sequence: numbers.sequence,
+        timestamp: numbers.timestamp,
+        l: numbers.l,
+        b: numbers.b,
         held,
         marks,
         room,
@@ -70,14 +70,20 @@ pub fn numbers_of(group: Holding) -> GroupNumbers
 
 // A holding of nothing.
 pub fn nothing() -> Holding
-    ensures { λ r. ⌜ r ≡ nothing ⌝ }
+    ensures { λ r. ⌜ r ≡ nothing holdingShape ⌝ }
 {
-    begin(0, 0, 0, 0, 0)
+    let none = GroupNumbers {
+        sequence: 0,
+        timestamp: 0,
+        l: 0,
+        b: 0,
+    };
+    begin(0, none)
 }
 
 // Whether the flags, marks and room of h are those of a holding of nothing.
 fn is_bare(h: Holding) -> bool
-    ensures { λ r. ⌜ r ≡ bare h ⌝ }
+    ensures { λ r. ⌜ r ≡ bare holdingShape h ⌝ }
 {
     let flags = h.held;
     let some = octets::any(&flags);
@@ -97,7 +103,7 @@ fn is_bare(h: Holding) -> bool
 
 // Whether h is a holding of nothing.
 pub fn is_nothing(h: Holding) -> bool
-    ensures { λ r. ⌜ r ≡ isNothing h ⌝ }
+    ensures { λ r. ⌜ r ≡ isNothing holdingShape h ⌝ }
 {
     if h.source != 0 {
         return false;
@@ -121,7 +127,7 @@ pub fn is_nothing(h: Holding) -> bool
 // The holding with packet n put in.
 pub fn with_packet(h: Holding, n: usize, p: Bundle) -> Holding
     requires { ⌜ n < 8 ⌝ }
-    ensures { λ r. ⌜ r ≡ withPacket h n p ⌝ }
+    ensures { λ r. ⌜ r ≡ withPacket holdingShape h n p ⌝ }
 {
     let mut held = h.held;
     held[n] = true;
@@ -157,7 +163,7 @@ pub fn is_held(h: Holding, n: usize) -> bool
 // Whether packet n's frames are those of p.
 pub fn same_packet(h: Holding, n: usize, p: Bundle) -> bool
     requires { ⌜ n < 8 ⌝ }
-    ensures { λ r. ⌜ r ≡ sameBundles (bundleAt h n) p ⌝ }
+    ensures { λ r. ⌜ r ≡ sameBundles (bundleAt holdingShape h n) p ⌝ }
 {
     let marks = h.marks;
     let room = h.room;
@@ -181,8 +187,8 @@ fn packet_right(
     marks: &[u8],
     room: &[u8],
 ) -> bool
-    requires { ⌜ (length (now marks) ≡ 10) × (length (now room) ≡ 220) ⌝ }
-    ensures { λ r. ⌜ r ≡ packetRight (rowsOf vocoder) l b n held (bundleIn (now (marks .entry)) (now (room .entry))) ⌝ }
+    requires { ⌜ (length (now marks) ≡ 10) × (length (now room) ≡ roomOf (shapeOf vocoder)) ⌝ }
+    ensures { λ r. ⌜ r ≡ packetRight (voiceOf vocoder) l b n held (bundleIn (now (marks .entry)) (now (room .entry))) ⌝ }
 {
     if held {
         let last = l as usize;
@@ -191,32 +197,46 @@ fn packet_right(
         }
         return bundle::frames_right(vocoder, b, marks, room);
     }
-    let none = bundle::not_held();
-    let no_marks = none.marks;
-    let no_room = none.room;
-    bundle::same_bundles(marks, room, &no_marks, &no_room)
+    bundle::is_not_held(vocoder, marks, room)
 }
 
-// Whether every packet, held or not, keeps the rule; a holding's frames are EVRC, as yet of each.
-fn packets_right(h: Holding) -> bool
-    ensures { λ r. ⌜ r ≡ allBelow (rightAt (tableOf h) h) 8 ⌝ }
+// Whether packet n keeps the rule in a group of l and b with these flags, types and cells.
+fn right_in(
+    vocoder: Vocoder,
+    l: u8,
+    b: u8,
+    n: usize,
+    held: &[bool],
+    marks: &[u8],
+    room: &[u8],
+) -> bool
+    requires { ⌜ (n < packetsOf (shapeOf vocoder)) × Spans (shapeOf vocoder) (now held) (now marks) (now room) ⌝ }
+    ensures { λ r. ⌜ r ≡ rightIn (voiceOf vocoder) l b (now (held .entry)) (now (marks .entry)) (now (room .entry)) n ⌝ }
 {
-    let held = h.held;
-    let marks = h.marks;
-    let room = h.room;
+    let at = 10 * n;
+    let octets = frame::cell_of(vocoder) * 10;
+    let from = octets * n;
+    packet_right(
+        vocoder,
+        l,
+        b,
+        n,
+        held[n],
+        &marks[at..at + 10],
+        &room[from..from + octets],
+    )
+}
+
+// Whether every packet, held or not, keeps the rule there.
+fn packets_right(vocoder: Vocoder, l: u8, b: u8, held: &[bool], marks: &[u8], room: &[u8]) -> bool
+    requires { ⌜ Spans (shapeOf vocoder) (now held) (now marks) (now room) ⌝ }
+    ensures { λ r. ⌜ r
+        ≡ allBelow (rightIn (voiceOf vocoder) l b (now (held .entry)) (now (marks .entry)) (now (room .entry))) (packetsOf (shapeOf vocoder)) ⌝ }
+{
+    let packets = frame::packets_of(vocoder);
     let mut n: usize = 0;
-    while n < 8 {
-        let at = 10 * n;
-        let from = 220 * n;
-        let right = packet_right(
-            Vocoder::Evrc,
-            h.l,
-            h.b,
-            n,
-            held[n],
-            &marks[at..at + 10],
-            &room[from..from + 220],
-        );
+    while n < packets {
+        let right = right_in(vocoder, l, b, n, held, marks, room);
         if right {
             n = n + 1;
         } else {
@@ -226,9 +246,9 @@ fn packets_right(h: Holding) -> bool
     true
 }
 
-// Whether h keeps the rule of a holding.
+// Whether h keeps the rule of a holding. Its frames are EVRC, as yet of each.
 pub fn is_sound(h: Holding) -> bool
-    ensures { λ r. ⌜ r ≡ sound (tableOf h) h ⌝ }
+    ensures { λ r. ⌜ r ≡ sound (voiceIn h) h ⌝ }
 {
     if 7 < h.l {
         return false;
@@ -239,12 +259,15 @@ pub fn is_sound(h: Holding) -> bool
     if 10 < h.b {
         return false;
     }
-    packets_right(h)
+    let held = h.held;
+    let marks = h.marks;
+    let room = h.room;
+    packets_right(Vocoder::Evrc, h.l, h.b, &held, &marks, &room)
 }
 
 // Whether h holds a packet. One that breaks the rule counts as holding none.
 pub fn holds_packet(h: Holding) -> bool
-    ensures { λ r. ⌜ r ≡ holds (tableOf h) h ⌝ }
+    ensures { λ r. ⌜ r ≡ holds (voiceIn h) h ⌝ }
 {
     let keeps = is_sound(h);
     if keeps {

@@ -6,6 +6,7 @@ use mathlib.Core.List.{List}
 use lib.Dec.{eqb}
 use borrow.Author.Tests.{eq-eqb, eqb-true}
 use Rattle.octets.proofs.Logic.{both-true}
+use Rattle.frame.specs.Shape.{Shape}
 use Rattle.holding.specs.Group.{heldAt, bundleAt, withPacket}
 use Rattle.holding.specs.declared.Holding.{Holding}
 use Rattle.joining.specs.Joining.{sameGroup, takeOne, takeBelow}
@@ -23,20 +24,20 @@ pub same-fields : {s s' q q' t t' l l' b b' : ℕ} {h h' : List Bool} {m m' r r'
     (record { source = s'; sequence = q'; timestamp = t'; l = l'; b = b'; held = h'; marks = m'; room = r' })
 same-fields p1 p2 p3 p4 p5 p6 p7 p8 = cc
 
-one-head : (a b : Holding) (n : ℕ) → SameHead (takeOne a b n) a
+one-head : (v : Shape) (a b : Holding) (n : ℕ) → SameHead (takeOne v a b n) a
 unfolding takeOne withPacket
-one-head a b n = go (heldAt b n)
+one-head v a b n = go (heldAt b n)
   where
-    go : (f : Bool) → SameHead (cond f (withPacket a n (bundleAt b n)) a) a
+    go : (f : Bool) → SameHead (cond f (withPacket v a n (bundleAt v b n)) a) a
     go true = record { source = refl; sequence = refl; timestamp = refl; l = refl; b = refl }
     go false = record { source = refl; sequence = refl; timestamp = refl; l = refl; b = refl }
 
-pub take-head : (a b : Holding) (n : ℕ) → SameHead (takeBelow a b n) a
+pub take-head : (v : Shape) (a b : Holding) (n : ℕ) → SameHead (takeBelow v a b n) a
 unfolding takeBelow
-take-head a b zero = record { source = refl; sequence = refl; timestamp = refl; l = refl; b = refl }
-take-head a b (suc n) =
-    let p = one-head (takeBelow a b n) b n in
-    let q = take-head a b n in
+take-head v a b zero = record { source = refl; sequence = refl; timestamp = refl; l = refl; b = refl }
+take-head v a b (suc n) =
+    let p = one-head v (takeBelow v a b n) b n in
+    let q = take-head v a b n in
     record {
       source = p .source ∙ q .source;
       sequence = p .sequence ∙ q .sequence;

@@ -1,24 +1,24 @@
 -- Joining, step by step. Assumes nothing.
-use Prim.Native.Nat.{ℕ, zero, suc, _+_, _-_, _*_, _≤_}
+use Prim.Native.Nat.{ℕ, zero, suc, _+_, _-_, _*_}
 use mathlib.Core.Bool.{Bool, true, false, cond}
-use mathlib.Core.Path.{_≡_, refl, sym, ap, ap₂, _∙_}
+use mathlib.Core.Path.{_≡_, refl, sym, ap, _∙_}
 use mathlib.Core.List.{List}
-use native.Mathlib.Omega.{arith}
 use native.Mathlib.Numerals.{add-one}
 use lib.ListN.{getD, set}
 use lib.Dec.{eqb}
 use borrow.Author.Tests.{eq-eqb, ne-eqb}
-use Rattle.octets.specs.Octets.{over, allBelow, region}
-use Rattle.frame.specs.FrameTable.{FrameTable}
+use Rattle.octets.specs.Octets.{over, allBelow}
+use Rattle.frame.specs.Shape.{Shape, Voice, packetsOf, roomOf}
 use Rattle.answers.specs.declared.Refusal.the-variants.{PacketDiffers, NotSameGroup, NotApplicable}
 use Rattle.octets.proofs.Logic.{both-false}
-use Rattle.holding.specs.Group.{heldAt, bundleAt, withPacket, holds}
+use Rattle.holding.specs.Group.{heldAt, bundleOf, bundleAt, withPacket, holds}
 use Rattle.bundle.specs.Bundles.{bundleIn, sameBundles}
 use Rattle.holding.specs.declared.Holding.{Holding}
 use Rattle.bundle.specs.declared.Bundle.{Bundle}
 use Rattle.answers.specs.declared.Answer.the-variants.{Done}
 use Rattle.octets.proofs.Regions.{cutAt, cut-is}
-use Rattle.joining.specs.Joining.{sameGroup, meets, agreeAt, agree, takeOne, takeBelow, either, refusedJoin, joinOf}
+use Rattle.holding.proofs.GroupLaws.{packet-cut}
+use Rattle.joining.specs.Joining.{sameGroup, meets, agreeIn, agreeAt, agree, takeOne, takeBelow, either, unnumbered, refusedJoin, joinOf}
 use Rattle.joining.specs.declared.Joined.{Joined}
 use Rattle.joining.proofs.Heads.{same-fields, take-head}
 
@@ -67,109 +67,90 @@ module _ (h : Bool) (p : Bundle) (h′ : Bool) (q : Bundle) where
       go true = simp e
       go false = refl
 
--- packet n of two holdings, by their flags, marks and rooms; the last as the code cuts it
-unfoldable pub agreeIn : List Bool → List ℕ → List ℕ → List Bool → List ℕ → List ℕ → ℕ → Bool
-agreeIn hs ms rs hs′ ms′ rs′ n =
-    meets (getD hs n false) (bundleIn (region ms 10 n) (region rs 220 n)) (getD hs′ n false) (bundleIn (region ms′ 10 n) (region rs′ 220 n))
-
+-- packet n of two groups, by their flags, types and cells as the code cuts them
 pub agree-cut :
-    (hs : List Bool) (ms rs : List ℕ) (hs′ : List Bool) (ms′ rs′ : List ℕ) (n : ℕ) →
-    meets (getD hs n false) (bundleIn (cutAt ms 10 n) (cutAt rs 220 n)) (getD hs′ n false) (bundleIn (cutAt ms′ 10 n) (cutAt rs′ 220 n))
-    ≡ agreeIn hs ms rs hs′ ms′ rs′ n
+    (v : Shape) (hs : List Bool) (ms rs : List ℕ) (hs′ : List Bool) (ms′ rs′ : List ℕ) (n c : ℕ) → c ≡ roomOf v →
+    meets (getD hs n false) (bundleIn (cutAt ms 10 n) (cutAt rs c n)) (getD hs′ n false) (bundleIn (cutAt ms′ 10 n) (cutAt rs′ c n))
+    ≡ agreeIn v hs ms rs hs′ ms′ rs′ n
 unfolding agreeIn
-agree-cut hs ms rs hs′ ms′ rs′ n = rw (cut-is ms 10 n, cut-is rs 220 n, cut-is ms′ 10 n, cut-is rs′ 220 n)
+agree-cut v hs ms rs hs′ ms′ rs′ n c e = rw (e, packet-cut v ms rs n, packet-cut v ms′ rs′ n)
 
-pub agree-is : (a b : Holding) → allBelow (agreeIn (a .held) (a .marks) (a .room) (b .held) (b .marks) (b .room)) 8 ≡ agree a b
-unfolding agree agreeIn agreeAt heldAt bundleAt
-agree-is a b = refl
+pub agree-is :
+    (v : Shape) (a b : Holding) → allBelow (agreeIn v (a .held) (a .marks) (a .room) (b .held) (b .marks) (b .room)) (packetsOf v) ≡ agree v a b
+unfolding agree agreeIn agreeAt heldAt
+agree-is v a b = refl
 
 -- ---- taking packets, one by one
 
--- a holding of these flags, marks and room; its numbers are not looked at
-abbrev pub heard : List Bool → List ℕ → List ℕ → Holding
-heard hs ms rs =
-    record { source = 0; sequence = 0; timestamp = 0; l = 0; b = 0; held = hs; marks = ms; room = rs }
+-- a holding whose numbers are not looked at
+abbrev parts : Holding → Holding
+parts h = unnumbered (h .held) (h .marks) (h .room)
 
-parts-take : (a b : Holding) (n : ℕ) → takeBelow a (heard (b .held) (b .marks) (b .room)) n ≡ takeBelow a b n
-unfolding takeBelow takeOne heldAt bundleAt
-parts-take a b zero = refl
-parts-take a b (suc n) = ap (λ (h : Holding). takeOne h b n) (parts-take a b n)
+module _ (v : Shape) where
+  parts-take : (a b : Holding) (n : ℕ) → takeBelow v a (parts b) n ≡ takeBelow v a b n
+  unfolding takeBelow takeOne heldAt
+  parts-take a b zero = refl
+  parts-take a b (suc n) = ap (λ (h : Holding). takeOne v h b n) (parts-take a b n)
 
-take-lost : (a b : Holding) (n : ℕ) → getD (b .held) n false ≡ false → takeBelow a b n ≡ takeBelow a b (n + 1)
-unfolding takeBelow takeOne heldAt
-take-lost a b n e = rw (add-one, e)
+  of-parts : (a b : Holding) (n : ℕ) → takeBelow v (parts a) b n ≡ parts (takeBelow v a b n)
+  unfolding takeBelow takeOne withPacket
+  of-parts a b zero = refl
+  of-parts a b (suc n) = ap (λ (h : Holding). takeOne v h b n) (of-parts a b n) ∙ go (takeBelow v a b n) (heldAt b n)
+    where
+      go : (h : Holding) (t : Bool) → cond t (withPacket v (parts h) n (bundleAt v b n)) (parts h) ≡ parts (cond t (withPacket v h n (bundleAt v b n)) h)
+      go h true = refl
+      go h false = refl
 
-take-held : (a b : Holding) (n : ℕ) → getD (b .held) n false ≡ true → withPacket (takeBelow a b n) n (bundleAt b n) ≡ takeBelow a b (n + 1)
-unfolding takeBelow takeOne heldAt
-take-held a b n e = rw (add-one, e)
-
--- what was taken, as the loop has it
-pub record Taken (a : Holding) (hs : List Bool) (ms rs : List ℕ) (n : ℕ) (held : List Bool) (marks room : List ℕ) : Type 0 where
-  pub flags : held ≡ takeBelow a (heard hs ms rs) n .held
-  pub types : marks ≡ takeBelow a (heard hs ms rs) n .marks
-  pub bodies : room ≡ takeBelow a (heard hs ms rs) n .room
-
-pub taken-none : (a : Holding) (hs : List Bool) (ms rs : List ℕ) → Taken a hs ms rs 0 (a .held) (a .marks) (a .room)
+-- one more packet
+pub take-more : (v : Shape) (a b : Holding) (n : ℕ) (h k : Holding) → h ≡ takeBelow v a b n → k ≡ takeOne v h b n → k ≡ takeBelow v a b (n + 1)
 unfolding takeBelow
-taken-none a hs ms rs = record { flags = refl; types = refl; bodies = refl }
+take-more v a b n h k e f = f ∙ ap (λ (g : Holding). takeOne v g b n) e ∙ rw (add-one n)
 
-module _ (a : Holding) (hs : List Bool) (ms rs : List ℕ) (n : ℕ) (held : List Bool) (marks room : List ℕ) (t : Taken a hs ms rs n held marks room) where
-  pub taken-lost : getD hs n false ≡ false → Taken a hs ms rs (n + 1) held marks room
-  taken-lost e = record { flags = t .flags ∙ ap (λ (h : Holding). h .held) same; types = t .types ∙ ap (λ (h : Holding). h .marks) same; bodies = t .bodies ∙ ap (λ (h : Holding). h .room) same }
-    where
-      same : takeBelow a (heard hs ms rs) n ≡ takeBelow a (heard hs ms rs) (n + 1)
-      same = take-lost a (heard hs ms rs) n e
+-- packet n of these flags, types and cells: not held, or put in as the code cuts it
+module _ (v : Shape) (hs : List Bool) (ms rs : List ℕ) (hs′ : List Bool) (ms′ rs′ : List ℕ) (n : ℕ) where
+  pub one-lost : getD hs′ n false ≡ false → unnumbered hs ms rs ≡ takeOne v (unnumbered hs ms rs) (unnumbered hs′ ms′ rs′) n
+  unfolding takeOne heldAt
+  one-lost e = rw e
 
-  pub taken-held :
-      (marks′ room′ : List ℕ) →
-      getD hs n false ≡ true →
-      marks′ ≡ over marks (10 * n) (cutAt ms 10 n) →
-      room′ ≡ over room (220 * n) (cutAt rs 220 n) →
-      Taken a hs ms rs (n + 1) (set held n true) marks′ room′
-  unfolding withPacket bundleAt
-  taken-held marks′ room′ e p q =
-      record {
-        flags = ap (λ (h : List Bool). set h n true) (t .flags) ∙ ap (λ (h : Holding). h .held) more;
-        types = p ∙ ap₂ (λ (m c : List ℕ). over m (10 * n) c) (t .types) (cut-is ms 10 n) ∙ ap (λ (h : Holding). h .marks) more;
-        bodies = q ∙ ap₂ (λ (m c : List ℕ). over m (220 * n) c) (t .bodies) (cut-is rs 220 n) ∙ ap (λ (h : Holding). h .room) more;
-      }
-    where
-      more : withPacket (takeBelow a (heard hs ms rs) n) n (bundleAt (heard hs ms rs) n) ≡ takeBelow a (heard hs ms rs) (n + 1)
-      more = take-held a (heard hs ms rs) n e
+  pub one-held : (ms″ rs″ : List ℕ) (c : ℕ) → getD hs′ n false ≡ true → c ≡ roomOf v → ms″ ≡ over ms (10 * n) (cutAt ms′ 10 n) → rs″ ≡ over rs (c * n) (cutAt rs′ c n)
+      → unnumbered (set hs n true) ms″ rs″ ≡ takeOne v (unnumbered hs ms rs) (unnumbered hs′ ms′ rs′) n
+  unfolding takeOne heldAt withPacket bundleOf
+  one-held ms″ rs″ c e w p q = rw (e, p, q, w, cut-is ms′ 10 n, cut-is rs′ (roomOf v) n)
 
--- all taken
-pub taken-all : (a b : Holding) (n : ℕ) (held : List Bool) (marks room : List ℕ) → n ≤ 8 → 8 ≤ n → Taken a (b .held) (b .marks) (b .room) n held marks room
-    → _≡_ {A = Holding} (record { source = a .source; sequence = a .sequence; timestamp = a .timestamp; l = a .l; b = a .b; held = held; marks = marks; room = room }) (either a b)
-taken-all a b n held marks room p q t =
-    let e : n ≡ 8 = omega arith in
-    let same : takeBelow a (heard (b .held) (b .marks) (b .room)) n ≡ either a b = parts-take a b n ∙ ap (takeBelow a b) e in
-    let k = take-head a b 8 in
+-- a's numbers, with these flags, types and cells
+abbrev numbered : Holding → List Bool → List ℕ → List ℕ → Holding
+numbered a hs ms rs =
+    record { source = a .source; sequence = a .sequence; timestamp = a .timestamp; l = a .l; b = a .b; held = hs; marks = ms; room = rs }
+
+-- every packet of either, with a's numbers
+pub taken-numbered : (v : Shape) (a b : Holding) (hs : List Bool) (ms rs : List ℕ) → unnumbered hs ms rs ≡ either v (parts a) (parts b) → numbered a hs ms rs ≡ either v a b
+taken-numbered v a b hs ms rs e =
+    let p : unnumbered hs ms rs ≡ parts (either v a b) = e ∙ parts-take v (parts a) b (packetsOf v) ∙ of-parts v a b (packetsOf v) in
+    let k = take-head v a b (packetsOf v) in
     same-fields (sym (k .source)) (sym (k .sequence)) (sym (k .timestamp)) (sym (k .l)) (sym (k .b))
-    (t .flags ∙ ap (λ (h : Holding). h .held) same)
-    (t .types ∙ ap (λ (h : Holding). h .marks) same)
-    (t .bodies ∙ ap (λ (h : Holding). h .room) same)
+    (ap (λ (h : Holding). h .held) p) (ap (λ (h : Holding). h .marks) p) (ap (λ (h : Holding). h .room) p)
 
 -- ---- the answers of a joining, check by check
 
-module _ (v : FrameTable) (a b : Holding) where
-  pub first-empty : holds v a ≡ false → refusedJoin NotApplicable ≡ joinOf v a b
+module _ (v : Voice) (a b : Holding) where
+  pub first-empty : holds v a ≡ false → refusedJoin (v .shape) NotApplicable ≡ joinOf v a b
   unfolding joinOf
   first-empty e = simp e
 
-  pub second-empty : holds v b ≡ false → refusedJoin NotApplicable ≡ joinOf v a b
+  pub second-empty : holds v b ≡ false → refusedJoin (v .shape) NotApplicable ≡ joinOf v a b
   unfolding joinOf
   second-empty e = simp (e, both-false (holds v a))
 
   module _ (p : holds v a ≡ true) (q : holds v b ≡ true) where
-    pub other-group : sameGroup a b ≡ false → refusedJoin NotSameGroup ≡ joinOf v a b
+    pub other-group : sameGroup a b ≡ false → refusedJoin (v .shape) NotSameGroup ≡ joinOf v a b
     unfolding joinOf
     other-group e = simp (p, q, e)
 
     module _ (g : sameGroup a b ≡ true) where
-      pub packet-differs : agree a b ≡ false → refusedJoin PacketDiffers ≡ joinOf v a b
+      pub packet-differs : agree (v .shape) a b ≡ false → refusedJoin (v .shape) PacketDiffers ≡ joinOf v a b
       unfolding joinOf
       packet-differs e = simp (p, q, g, e)
 
-      pub join-done : agree a b ≡ true → (h : Holding) → h ≡ either a b → _≡_ {A = Joined} (record { answer = Done; holding = h }) (joinOf v a b)
+      pub join-done : agree (v .shape) a b ≡ true → (h : Holding) → h ≡ either (v .shape) a b → _≡_ {A = Joined} (record { answer = Done; holding = h }) (joinOf v a b)
       unfolding joinOf
       join-done e h f = simp (p, q, g, e) (ap (λ (x : Holding). record { answer = Done; holding = x }) f)

@@ -2,42 +2,50 @@
 -- holdings. Assumes nothing.
 use Prim.Native.Nat.{ℕ, zero, suc, _+_, _-_, _*_, _≤_, _<_}
 use mathlib.Core.Bool.{Bool, true, false, cond}
-use mathlib.Core.Path.{_≡_, refl, sym, ap, _∙_}
+use mathlib.Core.Path.{_≡_, refl, sym, ap, subst, _∙_}
 use mathlib.Core.List.{List, [], _∷_, _++_}
 use mathlib.Core.Logic.{_⊎_, ⊎-elim, inl, inr}
 use native.Mathlib.Omega.{arith}
-use native.Mathlib.Nat.{le-of-suc-le-suc, not-suc-le-zero, eq-or-lt-of-le, mul-zero, mul-suc, mul-le-mul-left}
+use native.Mathlib.Nat.{le-of-suc-le-suc, not-suc-le-zero, eq-or-lt-of-le, mul-zero, mul-suc}
 use lib.ListN.{length, take, drop, length-drop, length-set, take-append-drop}
 use lib.Seq.{getD-set-same, getD-set-other, drop-drop, ext-getD}
 use lib.Dec.{ltb}
 use borrow.Author.Tests.{ltb-true, ltb-false}
 use Rattle.octets.specs.Octets.{over, region}
-use Rattle.holding.specs.Group.{Shaped, heldAt, bundleAt, withPacket}
+use Rattle.frame.specs.Shape.{Shape, packetsOf, roomOf}
+use Rattle.holding.specs.Group.{Shaped, heldAt, bundleOf, bundleAt, withPacket}
 use Rattle.joining.specs.Joining.{takeOne, takeBelow}
 use Rattle.holding.specs.declared.Holding.{Holding}
 use Rattle.bundle.specs.declared.Bundle.{Bundle}
 use Rattle.joining.proofs.Heads.{SameHead, same-fields}
-use Rattle.octets.proofs.Regions.{length-region}
+use Rattle.octets.proofs.Regions.{region-fits, length-region}
 use Rattle.octets.proofs.OctetsLaws.{length-over, over-same, over-before, over-after}
 
 -- ---- the shape that a holding's type gives it
 
-pub record Sized (p : Bundle) : Type 0 where
+pub record Sized (v : Shape) (p : Bundle) : Type 0 where
   pub ten : length (p .marks) ≡ 10
-  pub bodies : length (p .room) ≡ 220
+  pub bodies : length (p .room) ≡ roomOf v
 
-pub packet-sized : (h : Holding) (n : ℕ) → Shaped h → n < 8 → Sized (bundleAt h n)
-unfolding bundleAt
-packet-sized h n s k =
-    record { ten = length-region (h .marks) 10 n (omega arith); bodies = length-region (h .room) 220 n (omega arith) }
+-- packet n's types and its cells lie in the arrays
+module _ (v : Shape) (h : Holding) (n : ℕ) (s : Shaped v h) (k : n < packetsOf v) where
+  marks-fit : 10 * n + 10 ≤ length (h .marks)
+  marks-fit = omega (arith, s .long-marks)
+
+  room-fits : roomOf v * n + roomOf v ≤ length (h .room)
+  room-fits = subst (λ (i : ℕ). roomOf v * n + roomOf v ≤ i) (sym (s .long-room)) (region-fits (roomOf v) n (packetsOf v) k)
+
+  pub packet-sized : Sized v (bundleAt v h n)
+  unfolding bundleOf
+  packet-sized = record { ten = length-region (h .marks) 10 n marks-fit; bodies = length-region (h .room) (roomOf v) n room-fits }
 
 -- ---- cells
 
 abbrev pub Cell : Type 0
 Cell = Bool × Bundle
 
-unfoldable pub cell : Holding → ℕ → Cell
-cell h n = (heldAt h n, bundleAt h n)
+unfoldable pub cell : Shape → Holding → ℕ → Cell
+cell v h n = (heldAt h n, bundleAt v h n)
 
 -- b's cell where it is held, else a's
 abbrev pub mix : Cell → Cell → Cell
@@ -60,87 +68,98 @@ module _ (xs : List ℕ) (s n : ℕ) (p : List ℕ) (e : length p ≡ s) (fits :
   region-other : (m : ℕ) → (m ≡ n → ⊥) → region (over xs (s * n) p) s m ≡ region xs s m
   unfolding region
   region-other m d =
-      ⊎-elim (λ (q : m < n). over-before xs (s * n) p (omega arith) (s * m) s (omega (arith, next m n q)))
-      (λ (q : n < m). over-after xs (s * n) p (omega arith) (s * m) s (omega (arith, next n m q))) (before-or-after m n d)
-    where
-      next : (i j : ℕ) → i < j → s * i + s ≤ s * j
-      next i j q = omega (arith, mul-le-mul-left s q, mul-suc s i)
+      ⊎-elim (λ (q : m < n). over-before xs (s * n) p (omega arith) (s * m) s (omega (arith, region-fits s m n q)))
+      (λ (q : n < m). over-after xs (s * n) p (omega arith) (s * m) s (omega (arith, region-fits s n m q))) (before-or-after m n d)
 
-module _ (h : Holding) (n : ℕ) (p : Bundle) (s : Shaped h) (z : Sized p) (k : n < 8) where
-  pub with-shaped : Shaped (withPacket h n p)
+module _ (v : Shape) (h : Holding) (n : ℕ) (p : Bundle) (s : Shaped v h) (z : Sized v p) (k : n < packetsOf v) where
+  marks-in : 10 * n + length (p .marks) ≤ length (h .marks)
+  marks-in = omega (arith, marks-fit v h n s k, z .ten)
+
+  room-in : roomOf v * n + length (p .room) ≤ length (h .room)
+  room-in = subst (λ (i : ℕ). roomOf v * n + i ≤ length (h .room)) (sym (z .bodies)) (room-fits v h n s k)
+
+  pub with-shaped : Shaped v (withPacket v h n p)
   unfolding withPacket
   with-shaped =
       record {
         long-held = length-set (h .held) n true ∙ s .long-held;
-        long-marks = length-over (h .marks) (10 * n) (p .marks) (omega arith) ∙ s .long-marks;
-        long-room = length-over (h .room) (220 * n) (p .room) (omega arith) ∙ s .long-room;
+        long-marks = length-over (h .marks) (10 * n) (p .marks) marks-in ∙ s .long-marks;
+        long-room = length-over (h .room) (roomOf v * n) (p .room) room-in ∙ s .long-room;
       }
 
-  pub with-here : cell (withPacket h n p) n ≡ (true, p)
-  unfolding cell withPacket heldAt bundleAt
+  pub with-here : cell v (withPacket v h n p) n ≡ (true, p)
+  unfolding cell withPacket heldAt bundleOf
   with-here =
-      rw (getD-set-same (h .held) n true false (omega arith), region-here (h .marks) 10 n (p .marks) (z .ten) (omega arith), region-here (h .room) 220 n (p .room) (z .bodies) (omega arith))
+      rw (
+        getD-set-same (h .held) n true false (omega (arith, s .long-held)),
+        region-here (h .marks) 10 n (p .marks) (z .ten) (marks-fit v h n s k),
+        region-here (h .room) (roomOf v) n (p .room) (z .bodies) (room-fits v h n s k),
+      )
 
-  pub with-other : (m : ℕ) → (m ≡ n → ⊥) → cell (withPacket h n p) m ≡ cell h m
-  unfolding cell withPacket heldAt bundleAt
+  pub with-other : (m : ℕ) → (m ≡ n → ⊥) → cell v (withPacket v h n p) m ≡ cell v h m
+  unfolding cell withPacket heldAt bundleOf
   with-other m d =
-      rw (getD-set-other (h .held) n m true false d, region-other (h .marks) 10 n (p .marks) (z .ten) (omega arith) m d, region-other (h .room) 220 n (p .room) (z .bodies) (omega arith) m d)
+      rw (
+        getD-set-other (h .held) n m true false d,
+        region-other (h .marks) 10 n (p .marks) (z .ten) (marks-fit v h n s k) m d,
+        region-other (h .room) (roomOf v) n (p .room) (z .bodies) (room-fits v h n s k) m d,
+      )
 
 -- ---- taking b's packets
 
-module _ (h b : Holding) (n : ℕ) (s : Shaped h) (t : Shaped b) (k : n < 8) where
-  one-shaped : Shaped (takeOne h b n)
+module _ (v : Shape) (h b : Holding) (n : ℕ) (s : Shaped v h) (t : Shaped v b) (k : n < packetsOf v) where
+  one-shaped : Shaped v (takeOne v h b n)
   unfolding takeOne
   one-shaped = go (heldAt b n)
     where
-      go : (f : Bool) → Shaped (cond f (withPacket h n (bundleAt b n)) h)
-      go true = with-shaped h n (bundleAt b n) s (packet-sized b n t k) k
+      go : (f : Bool) → Shaped v (cond f (withPacket v h n (bundleAt v b n)) h)
+      go true = with-shaped v h n (bundleAt v b n) s (packet-sized v b n t k) k
       go false = s
 
-  one-here : cell (takeOne h b n) n ≡ mix (cell h n) (cell b n)
+  one-here : cell v (takeOne v h b n) n ≡ mix (cell v h n) (cell v b n)
   unfolding takeOne cell
   one-here = go (heldAt b n)
     where
-      go : (f : Bool) → cell (cond f (withPacket h n (bundleAt b n)) h) n ≡ cond f (f, bundleAt b n) (cell h n)
-      go true = with-here h n (bundleAt b n) s (packet-sized b n t k) k
+      go : (f : Bool) → cell v (cond f (withPacket v h n (bundleAt v b n)) h) n ≡ cond f (f, bundleAt v b n) (cell v h n)
+      go true = with-here v h n (bundleAt v b n) s (packet-sized v b n t k) k
       go false = refl
 
-  one-other : (m : ℕ) → (m ≡ n → ⊥) → cell (takeOne h b n) m ≡ cell h m
+  one-other : (m : ℕ) → (m ≡ n → ⊥) → cell v (takeOne v h b n) m ≡ cell v h m
   unfolding takeOne
   one-other m d = go (heldAt b n)
     where
-      go : (f : Bool) → cell (cond f (withPacket h n (bundleAt b n)) h) m ≡ cell h m
-      go true = with-other h n (bundleAt b n) s (packet-sized b n t k) k m d
+      go : (f : Bool) → cell v (cond f (withPacket v h n (bundleAt v b n)) h) m ≡ cell v h m
+      go true = with-other v h n (bundleAt v b n) s (packet-sized v b n t k) k m d
       go false = refl
 
-module _ (a b : Holding) (s : Shaped a) (t : Shaped b) where
-  pub take-shaped : (n : ℕ) → n ≤ 8 → Shaped (takeBelow a b n)
+module _ (v : Shape) (a b : Holding) (s : Shaped v a) (t : Shaped v b) where
+  pub take-shaped : (n : ℕ) → n ≤ packetsOf v → Shaped v (takeBelow v a b n)
   unfolding takeBelow
   take-shaped zero k = s
-  take-shaped (suc n) k = one-shaped (takeBelow a b n) b n (take-shaped n (omega arith)) t (omega arith)
+  take-shaped (suc n) k = one-shaped v (takeBelow v a b n) b n (take-shaped n (omega arith)) t (omega arith)
 
   -- a cell from n on is a's still
-  take-above : (n m : ℕ) → n ≤ 8 → n ≤ m → cell (takeBelow a b n) m ≡ cell a m
+  take-above : (n m : ℕ) → n ≤ packetsOf v → n ≤ m → cell v (takeBelow v a b n) m ≡ cell v a m
   unfolding takeBelow
   take-above zero m k h = refl
   take-above (suc n) m k h =
-      one-other (takeBelow a b n) b n (take-shaped n (omega arith)) t (omega arith) m (λ e. omega arith) ∙ take-above n m (omega arith) (omega arith)
+      one-other v (takeBelow v a b n) b n (take-shaped n (omega arith)) t (omega arith) m (λ e. omega arith) ∙ take-above n m (omega arith) (omega arith)
 
-  take-below : (n m : ℕ) → n ≤ 8 → m < n → cell (takeBelow a b n) m ≡ mix (cell a m) (cell b m)
+  take-below : (n m : ℕ) → n ≤ packetsOf v → m < n → cell v (takeBelow v a b n) m ≡ mix (cell v a m) (cell v b m)
   unfolding takeBelow
   take-below zero m k h = absurd (not-suc-le-zero h)
   take-below (suc n) m k h =
       ⊎-elim
       (λ (q : m ≡ n).
       rw q
-      (one-here (takeBelow a b n) b n (take-shaped n (omega arith)) t (omega arith)
-      ∙ ap (λ (x : Cell). mix x (cell b n)) (take-above n n (omega arith) (omega arith))))
+      (one-here v (takeBelow v a b n) b n (take-shaped n (omega arith)) t (omega arith)
+      ∙ ap (λ (x : Cell). mix x (cell v b n)) (take-above n n (omega arith) (omega arith))))
       (λ (q : m < n).
-      one-other (takeBelow a b n) b n (take-shaped n (omega arith)) t (omega arith) m (λ e. omega arith) ∙ take-below n m (omega arith) q)
+      one-other v (takeBelow v a b n) b n (take-shaped n (omega arith)) t (omega arith) m (λ e. omega arith) ∙ take-below n m (omega arith) q)
       (eq-or-lt-of-le (le-of-suc-le-suc h))
 
-  pub take-cell : (m : ℕ) → m < 8 → cell (takeBelow a b 8) m ≡ mix (cell a m) (cell b m)
-  take-cell m h = take-below 8 m (omega arith) h
+  pub take-cell : (m : ℕ) → m < packetsOf v → cell v (takeBelow v a b (packetsOf v)) m ≡ mix (cell v a m) (cell v b m)
+  take-cell m h = take-below (packetsOf v) m (omega arith) h
 
 -- ---- equal cells, equal holdings
 
@@ -160,10 +179,13 @@ regions-ext (suc m) s xs ys e f h =
     next : (zs : List ℕ) (n : ℕ) → take s (drop (s * n) (drop s zs)) ≡ take s (drop (s * suc n) zs)
     next zs n = let e : s + s * n ≡ s * suc n = omega (arith, mul-suc s n) in rw (drop-drop (s * n) s zs, e)
 
-pub cells-ext : (a b : Holding) → Shaped a → Shaped b → SameHead a b → ((n : ℕ) → n < 8 → cell a n ≡ cell b n) → a ≡ b
-unfolding cell bundleAt heldAt
-cells-ext a b s t e h =
-    let hd : a .held ≡ b .held = ext-getD false (a .held) (b .held) (s .long-held ∙ sym (t .long-held)) (λ n k. ap (λ (x : Cell). x .0) (h n (omega arith))) in
-    let mk : a .marks ≡ b .marks = regions-ext 8 10 (a .marks) (b .marks) (s .long-marks) (t .long-marks) (λ n k. ap (λ (x : Cell). x .1 .marks) (h n k)) in
-    let rm : a .room ≡ b .room = regions-ext 8 220 (a .room) (b .room) (s .long-room) (t .long-room) (λ n k. ap (λ (x : Cell). x .1 .room) (h n k)) in
+pub cells-ext : (v : Shape) (a b : Holding) → Shaped v a → Shaped v b → SameHead a b → ((n : ℕ) → n < packetsOf v → cell v a n ≡ cell v b n) → a ≡ b
+unfolding cell bundleOf heldAt
+cells-ext v a b s t e h =
+    let hd : a .held ≡ b .held =
+    ext-getD false (a .held) (b .held) (s .long-held ∙ sym (t .long-held)) (λ n k. ap (λ (x : Cell). x .0) (h n (omega (arith, s .long-held)))) in
+    let mk : a .marks ≡ b .marks =
+    regions-ext (packetsOf v) 10 (a .marks) (b .marks) (s .long-marks) (t .long-marks) (λ n k. ap (λ (x : Cell). x .1 .marks) (h n k)) in
+    let rm : a .room ≡ b .room =
+    regions-ext (packetsOf v) (roomOf v) (a .room) (b .room) (s .long-room) (t .long-room) (λ n k. ap (λ (x : Cell). x .1 .room) (h n k)) in
     same-fields (e .source) (e .sequence) (e .timestamp) (e .l) (e .b) hd mk rm

@@ -1,26 +1,22 @@
--- Document 01, "Groups" and "What the promises have to say": holdings as Groups defines them, and what they know.
+-- Document 01, "Groups" and "What the promises have to say": holdings as Groups defines them, and what they know,
+-- over any shape and frame table.
 use Prim.Native.Nat.{ℕ}
 use mathlib.Core.Path.{_≡_}
 use mathlib.Core.List.{List, [], _∷_}
 use mathlib.Core.Logic.{_⊎_}
 use mathlib.Core.Bool.{Bool, true, false, cond}
-use lib.ListN.{take}
-use Rattle.octets.specs.Octets.{region}
-use Rattle.frame.specs.FrameTable.{FrameTable, Frame, size, erasure}
+use Rattle.frame.specs.FrameTable.{Frame, erasure}
+use Rattle.frame.specs.Shape.{Voice}
 use Rattle.frame.specs.Places.{frameAt, upTo}
 use Rattle.holding.specs.Group.{Shaped, heldAt, bundleAt, holds}
-use Rattle.bundle.specs.Bundles.{markAt}
+use Rattle.bundle.specs.Bundles.{frameOf}
 use Rattle.bundle.specs.declared.Bundle.{Bundle}
 use Rattle.holding.specs.declared.Holding.{Holding}
 
 -- "holdings as Groups defines them, .. each holding at least one packet"
-pub record Box (v : FrameTable) (h : Holding) : Type 0 where
-  pub shaped : Shaped h
+pub record Box (v : Voice) (h : Holding) : Type 0 where
+  pub shaped : Shaped (v .shape) h
   pub some : holds v h ≡ true
-
--- frame k of a packet: its type, and as much of its room, one "of 22 octets", as that type takes
-unfoldable pub frameOf : FrameTable → Bundle → ℕ → Frame
-frameOf v p k = record { type = markAt p k; body = take (size v (markAt p k)) (region (p .room) 22 k) }
 
 -- "equal knowledge": what is known of a packet is one value, whether it is held and its frames
 pub record Known : Type 0 where
@@ -32,12 +28,12 @@ abbrev pub unheard : Known
 unheard = record { held = false; frames = [] }
 
 -- what is known of a packet of b frames: "which packets are held, and the frames"
-unfoldable pub told : FrameTable → ℕ → Bool → Bundle → Known
+unfoldable pub told : Voice → ℕ → Bool → Bundle → Known
 told v b held p = cond held (record { held = true; frames = upTo (frameOf v p) b }) unheard
 
 -- what a holding knows of packet n
-unfoldable pub knownOf : FrameTable → Holding → ℕ → Known
-knownOf v h n = told v (h .b) (heldAt h n) (bundleAt h n)
+unfoldable pub knownOf : Voice → Holding → ℕ → Known
+knownOf v h n = told v (h .b) (heldAt h n) (bundleAt (v .shape) h n)
 
 -- frame k of what is known of a packet: "a place not held reads as an erasure"
 abbrev pub frameKnown : Known → ℕ → Frame

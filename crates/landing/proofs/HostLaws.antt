@@ -4,6 +4,7 @@ use mathlib.Core.Path.{_≡_, ap, ap₂, _∙_}
 use mathlib.Core.List.{List}
 use mathlib.Core.Path.{refl}
 use Rattle.answers.specs.Answers.{numberOf}
+use Rattle.answers.specs.Faults.{faultPlain}
 use Rattle.entries.specs.Kind.{Kind}
 use Rattle.frame.specs.Places.{locatedOf}
 use Rattle.form.specs.Agreed.{tableOf}
@@ -43,7 +44,7 @@ module _ (p : List ℕ) (w : Named) (r : Refusal) (e : w ≡ Refused r) where
 
   pub given-refused : (k : ℕ) → located.Refused r ≡ locatedOf (givenNamed w p) k
   unfolding givenNamed
-  given-refused k = rw e (asked-refused r k)
+  given-refused k = rw e (asked-refused (faultPlain r) k)
 
 module _ (p : List ℕ) (w : Named) (f : Form) (e : w ≡ Agreed f) where
   pub read-agreed : contentsOf (readAs (tableOf f) f p) ≡ contentsOf (readNamed w p)

@@ -4,6 +4,7 @@ use mathlib.Core.List.{List}
 use mathlib.Core.Bool.{cond}
 use lib.Dec.{eqb}
 use Rattle.answers.specs.Answers.{numberOf}
+use Rattle.answers.specs.Faults.{faultPlain}
 use Rattle.entries.specs.Kind.{Kind, kindOf}
 use Rattle.frame.specs.Places.{Given}
 use Rattle.frame.specs.Places as places
@@ -44,12 +45,12 @@ namedForm f l b =
 -- a payload read in the form that the host names
 unfoldable pub readNamed : Named → List ℕ → Reading
 readNamed (Agreed f) p = readAs (tableOf f) f p
-readNamed (Refused r) p = payload.refusedPayload r
+readNamed (Refused r) p = payload.refusedPayload (faultPlain r)
 
 -- and what it gives
 unfoldable pub givenNamed : Named → List ℕ → Given
 givenNamed (Agreed f) p = givenAs (tableOf f) f p
-givenNamed (Refused r) p = places.refusedFrames r
+givenNamed (Refused r) p = places.refusedFrames (faultPlain r)
 
 -- what the writers make in the form that the host names
 unfoldable pub packetNamed : Named → ℕ → ℕ → ℕ → ℕ → List ℕ → Made

@@ -15,7 +15,7 @@ ghost use Rattle.answers.specs.Outputs.{Writes, writtenOf};
 ghost use Rattle.entries.specs.Counting.{countedOf};
 ghost use Rattle.entries.specs.Kind.{kindOf};
 ghost use Rattle.frame.specs.Places.{locatedOf};
-ghost use Rattle.lending.specs.Laid.{sessionTable, holdingTable};
+ghost use Rattle.lending.specs.Laid.{sessionVoice, holdingVoice};
 ghost use Rattle.capture.specs.Run.{captureKind};
 ghost use Rattle.lending.specs.Calls.{offerAnswer, offerOctets, pourOf, pourOctets, copyAnswer, copyOctets, endAnswer, endOctets};
 ghost use Rattle.lending.specs.Calls.{joinAnswer, joinOctets, pourHeld};
@@ -349,8 +349,8 @@ pub extern "C" fn lv_session_offer(
     lost: &mut usize,
 ) -> u8
     ensures { λ r. ⌜ (countTold r (now (lost .exit))
-        ≡ takenAfter (offerAnswer (sessionTable (now (session .entry))) (now (session .entry)) source sequence timestamp (now (payload .entry))) (now (lost .entry)))
-        × (now (session .exit) ≡ offerOctets (sessionTable (now (session .entry))) (now (session .entry)) source sequence timestamp (now (payload .entry))) ⌝ }
+        ≡ takenAfter (offerAnswer (sessionVoice (now (session .entry))) (now (session .entry)) source sequence timestamp (now (payload .entry))) (now (lost .entry)))
+        × (now (session .exit) ≡ offerOctets (sessionVoice (now (session .entry))) (now (session .entry)) source sequence timestamp (now (payload .entry))) ⌝ }
 {
     tell_taken(
         lending::offer(session, source, sequence, timestamp, payload),
@@ -362,9 +362,9 @@ pub extern "C" fn lv_session_offer(
 #[no_mangle]
 pub extern "C" fn lv_session_pour(session: &mut [u8], out: &mut [u8], written: &mut usize) -> u8
     ensures { λ r. ⌜ (writeTold r (now (written .exit)) (now (out .exit))
-        ≡ writeAfter (pourOf (sessionTable (now (session .entry))) (now (session .entry))) (now (written .entry)) (now (out .entry)))
+        ≡ writeAfter (pourOf (sessionVoice (now (session .entry))) (now (session .entry))) (now (written .entry)) (now (out .entry)))
         × (now (session .exit)
-        ≡ pourOctets (now (session .entry)) (writtenOf (pourOf (sessionTable (now (session .entry))) (now (session .entry))) (now (out .entry)))) ⌝ }
+        ≡ pourOctets (now (session .entry)) (writtenOf (pourOf (sessionVoice (now (session .entry))) (now (session .entry))) (now (out .entry)))) ⌝ }
 {
     tell_written(lending::pour(session, out), written)
 }
@@ -372,8 +372,8 @@ pub extern "C" fn lv_session_pour(session: &mut [u8], out: &mut [u8], written: &
 // Copies the held group of a session out.
 #[no_mangle]
 pub extern "C" fn lv_session_copy(session: &[u8], holding: &mut [u8]) -> u8
-    ensures { λ r. ⌜ (r ≡ answerNumber (copyAnswer (sessionTable (now (session .entry))) (now (session .entry)) (now (holding .entry))))
-        × (now (holding .exit) ≡ copyOctets (sessionTable (now (session .entry))) (now (session .entry)) (now (holding .entry))) ⌝ }
+    ensures { λ r. ⌜ (r ≡ answerNumber (copyAnswer (sessionVoice (now (session .entry))) (now (session .entry)) (now (holding .entry))))
+        × (now (holding .exit) ≡ copyOctets (sessionVoice (now (session .entry))) (now (session .entry)) (now (holding .entry))) ⌝ }
 {
     tell(lending::copy_out(session, holding))
 }
@@ -390,8 +390,8 @@ pub extern "C" fn lv_session_end(session: &mut [u8]) -> u8
 // Joins two holdings.
 #[no_mangle]
 pub extern "C" fn lv_holding_join(a: &[u8], b: &[u8], out: &mut [u8]) -> u8
-    ensures { λ r. ⌜ (r ≡ answerNumber (joinAnswer (holdingTable (now (a .entry))) (now (a .entry)) (now (b .entry)) (now (out .entry))))
-        × (now (out .exit) ≡ joinOctets (holdingTable (now (a .entry))) (now (a .entry)) (now (b .entry)) (now (out .entry))) ⌝ }
+    ensures { λ r. ⌜ (r ≡ answerNumber (joinAnswer (holdingVoice (now (a .entry))) (now (a .entry)) (now (b .entry)) (now (out .entry))))
+        × (now (out .exit) ≡ joinOctets (holdingVoice (now (a .entry))) (now (a .entry)) (now (b .entry)) (now (out .entry))) ⌝ }
 {
     tell(lending::join(a, b, out))
 }
@@ -400,7 +400,7 @@ pub extern "C" fn lv_holding_join(a: &[u8], b: &[u8], out: &mut [u8]) -> u8
 #[no_mangle]
 pub extern "C" fn lv_holding_pour(holding: &[u8], out: &mut [u8], written: &mut usize) -> u8
     ensures { λ r. ⌜ writeTold r (now (written .exit)) (now (out .exit))
-        ≡ writeAfter (pourHeld (holdingTable (now (holding .entry))) (now (holding .entry))) (now (written .entry)) (now (out .entry)) ⌝ }
+        ≡ writeAfter (pourHeld (holdingVoice (now (holding .entry))) (now (holding .entry))) (now (written .entry)) (now (out .entry)) ⌝ }
 {
     tell_written(lending::pour_holding(holding, out), written)
 }

@@ -8,7 +8,7 @@ use lib.Dec.{leb}
 use borrow.Author.Tests.{leb-true, leb-false}
 use Rattle.octets.proofs.Logic.{apart}
 use Rattle.octets.specs.Octets.{over}
-use Rattle.frame.specs.FrameTable.{FrameTable}
+use Rattle.frame.specs.Shape.{Voice, holdingShape}
 use Rattle.answers.specs.Outputs.{Writes, writtenOf}
 use Rattle.answers.proofs.OutputsLaws.{writes-as}
 use Rattle.form.specs.declared.Form.{Form}
@@ -60,17 +60,17 @@ module _ (a : Answer) (o w : List ℕ) where
   ends-done r after x q e g = rw (q, ← e) g
 
 -- ---- octets are enough, or say a session never opened
-or-short : (o : List ℕ) → (sessionIn o ≡ neverOpened → 2304 ≤ length o) → 2304 ≤ length o
+or-short : (o : List ℕ) → (sessionIn o ≡ neverOpened holdingShape → 2304 ≤ length o) → 2304 ≤ length o
 or-short o f = go (leb 2304 (length o)) refl
   where
     go : (b : Bool) → leb 2304 (length o) ≡ b → 2304 ≤ length o
     go true e = leb-true _ _ e
-    go false e = f (sym (session-short o neverOpened (leb-false _ _ e) refl))
+    go false e = f (sym (session-short o (neverOpened holdingShape) (leb-false _ _ e) refl))
 
 -- ---- opening
-module _ (o : List ℕ) (source : ℕ) (form : Form) (s : Session) (x : Started) (e : s ≡ neverOpened) (q : x ≡ openedFor s source form) where
-  began : x ≡ openedFor neverOpened source form
-  began = q ∙ ap (λ (t : Session). openedFor t source form) e
+module _ (o : List ℕ) (source : ℕ) (form : Form) (s : Session) (x : Started) (e : s ≡ neverOpened holdingShape) (q : x ≡ openedFor holdingShape s source form) where
+  began : x ≡ openedFor holdingShape (neverOpened holdingShape) source form
+  began = q ∙ ap (λ (t : Session). openedFor holdingShape t source form) e
 
   pub open-refused : (r : Refusal) → x .answer ≡ answer.Refused r → (answer.Refused r ≡ openAnswer o source form) × (o ≡ openOctets o source form)
   unfolding openAnswer openOctets
@@ -81,7 +81,7 @@ module _ (o : List ℕ) (source : ℕ) (form : Form) (s : Session) (x : Started)
   open-done r after f g = ends-done _ o _ r after _ (ap (λ (y : Started). y .answer) (sym began) ∙ f) (ap (λ (y : Started). sessionLaid (y .session)) began) g
 
 -- ---- offering
-module _ (v : FrameTable) (o : List ℕ) (source sequence timestamp : ℕ) (p : List ℕ) (s : Session) (x : Offered) (e : s ≡ sessionIn o) (q : x ≡ offered v s source sequence timestamp p) where
+module _ (v : Voice) (o : List ℕ) (source sequence timestamp : ℕ) (p : List ℕ) (s : Session) (x : Offered) (e : s ≡ sessionIn o) (q : x ≡ offered v s source sequence timestamp p) where
   took : x ≡ offered v (sessionIn o) source sequence timestamp p
   took = q ∙ ap (λ (t : Session). offered v t source sequence timestamp p) e
 
@@ -105,14 +105,14 @@ module _ (v : FrameTable) (o : List ℕ) (source sequence timestamp : ℕ) (p : 
   unfolding offered isOpen neverOpened vacant refuse
   accepted-long lost f = or-short o none
     where
-      none : sessionIn o ≡ neverOpened → 2304 ≤ length o
+      none : sessionIn o ≡ neverOpened holdingShape → 2304 ≤ length o
       none z =
           let n : taken.Refused NotApplicable ≡ taken.Accepted lost =
           ap (λ (t : Session). offered v t source sequence timestamp p .answer) (sym z) ∙ answered ∙ f in
           apart (cc)
 
 -- ---- pouring
-module _ (v : FrameTable) (o before : List ℕ) (s t : Session) (w : Written) (after : List ℕ) (e : s ≡ sessionIn o) (q : Writes (pourMade v s) before w after × (t ≡ afterPour s w)) where
+module _ (v : Voice) (o before : List ℕ) (s t : Session) (w : Written) (after : List ℕ) (e : s ≡ sessionIn o) (q : Writes (pourMade v s) before w after × (t ≡ afterPour holdingShape s w)) where
   poured-as : pourOf v o ≡ pourMade v s
   unfolding pourOf
   poured-as = ap (pourMade v) (sym e)
@@ -124,7 +124,7 @@ module _ (v : FrameTable) (o before : List ℕ) (s t : Session) (w : Written) (a
   pub pour-octets : (n : ℕ) (next : List ℕ) → w ≡ written.Octets n → next ≡ over o 0 (sessionLaid t) → Writes (pourOf v o) before (written.Octets n) after × (next ≡ pourOctets o (written.Octets n))
   unfolding pourOctets layWritten afterPour
   pour-octets n next f g =
-      let z : t ≡ ended (sessionIn o) = q .1 ∙ ap (afterPour s) f ∙ ap ended e in
+      let z : t ≡ ended holdingShape (sessionIn o) = q .1 ∙ ap (afterPour holdingShape s) f ∙ ap (ended holdingShape) e in
       (writes-as _ _ _ _ _ poured-as (rw (← f) (q .0)), g ∙ ap (λ (y : Session). over o 0 (sessionLaid y)) z)
 
   -- a session that is too short pours nothing
@@ -132,14 +132,14 @@ module _ (v : FrameTable) (o before : List ℕ) (s t : Session) (w : Written) (a
   unfolding pourMade isOpen neverOpened vacant writtenOf
   poured-long n f = or-short o none
     where
-      none : sessionIn o ≡ neverOpened → 2304 ≤ length o
+      none : sessionIn o ≡ neverOpened holdingShape → 2304 ≤ length o
       none z =
           let m : written.Refused NotApplicable ≡ written.Octets n =
           sym (q .0 .answer ∙ ap (λ (y : Session). writtenOf (pourMade v y) before) (e ∙ z)) ∙ f in
           apart (cc)
 
 -- ---- copying out
-module _ (v : FrameTable) (o out : List ℕ) (s : Session) (x : Copied) (e : s ≡ sessionIn o) (q : x ≡ copied v s) where
+module _ (v : Voice) (o out : List ℕ) (s : Session) (x : Copied) (e : s ≡ sessionIn o) (q : x ≡ copied v s) where
   copied-as : x ≡ copied v (sessionIn o)
   copied-as = q ∙ ap (copied v) e
 
@@ -161,7 +161,7 @@ unfolding endAnswer endOctets
 end-done o after h q = room-taken o _ after h q
 
 -- ---- joining
-module _ (v : FrameTable) (a b out : List ℕ) (h k : Holding) (x : Joined) (e : h ≡ holdingIn a) (f : k ≡ holdingIn b) (q : x ≡ joinOf v h k) where
+module _ (v : Voice) (a b out : List ℕ) (h k : Holding) (x : Joined) (e : h ≡ holdingIn a) (f : k ≡ holdingIn b) (q : x ≡ joinOf v h k) where
   joined-as : x ≡ joinOf v (holdingIn a) (holdingIn b)
   joined-as = q ∙ ap (λ (y : Holding). joinOf v y k) e ∙ ap (joinOf v (holdingIn a)) f
 
@@ -174,6 +174,6 @@ module _ (v : FrameTable) (a b out : List ℕ) (h k : Holding) (x : Joined) (e :
   join-done r after g i = ends-done _ out _ r after _ (ap (λ (y : Joined). y .answer) (sym joined-as) ∙ g) (ap (λ (y : Joined). holdingLaid (y .holding)) joined-as) i
 
 -- ---- pouring a holding
-pub held-poured : (v : FrameTable) (o before after : List ℕ) (h : Holding) (w : Written) → h ≡ holdingIn o → Writes (poured v h) before w after → Writes (pourHeld v o) before w after
+pub held-poured : (v : Voice) (o before after : List ℕ) (h : Holding) (w : Written) → h ≡ holdingIn o → Writes (poured v h) before w after → Writes (pourHeld v o) before w after
 unfolding pourHeld
 held-poured v o before after h w e x = writes-as _ _ _ _ _ (ap (poured v) (sym e)) x

@@ -15,6 +15,7 @@ use Rattle.octets.proofs.OctetsLaws.{over-append, changed-at, set-three, part-i
 use Rattle.form.specs.declared.Limits.{Limits}
 use Rattle.form.specs.declared.Form.{Form}
 use Rattle.form.specs.declared.Form.the-variants.{HeaderFree, Interleaved}
+use Rattle.frame.specs.Shape.{holdingShape}
 use Rattle.holding.specs.Group.{Shaped, nothing}
 use Rattle.holding.specs.declared.Holding.{Holding}
 use Rattle.joining.proofs.Heads.{same-fields}
@@ -111,7 +112,7 @@ module _ (h : Holding) (d : List ℕ) (at : ℕ) (le : at ≤ length d) where
       let s₄ = lay-more d o₃ o₄ at (at + 10) (A h ++ B h ++ C h) (D h) le s₃ (omega (arith, length-abc h)) e₄ in
       lay-more d o₄ o₅ at (at + 12) (A h ++ B h ++ C h ++ D h) (replicate 4 0) le s₄ (omega (arith, length-abcd h)) e₅
 
-  pub frames-laid : Shaped h → (o₁ o₂ o₃ o₄ : List ℕ) → o₁ ≡ over d at (map flagOctet (h .held)) → o₂ ≡ over o₁ (at + 8) (replicate 8 0)
+  pub frames-laid : Shaped holdingShape h → (o₁ o₂ o₃ o₄ : List ℕ) → o₁ ≡ over d at (map flagOctet (h .held)) → o₂ ≡ over o₁ (at + 8) (replicate 8 0)
       → o₃ ≡ over o₂ (at + 16) (map (shifted 242) (h .marks)) → o₄ ≡ over o₃ (at + 96) (h .room) → o₄ ≡ over d at (frameOctets h)
   unfolding frameOctets
   frames-laid x o₁ o₂ o₃ o₄ e₁ e₂ e₃ e₄ =
@@ -163,7 +164,7 @@ head-laid s d o₁ o₂ o₃ o₄ o₅ o₆ e₁ e₂ e₃ e₄ e₅ e₆ =
     lay-more d o₅ o₆ 0 13 (O s ++ G s ++ S s ++ P s ++ Q s) (replicate 19 0) le s₅ (omega (arith, length-ogspq s)) e₆
 
 -- ---- in all 2,304 octets
-pub all-of-holding : (h : Holding) → Shaped h → (d e f : List ℕ) → e ≡ over d 0 (holdingOctets h) → f ≡ over e 1872 (replicate 432 0) → f ≡ over d 0 (holdingLaid h)
+pub all-of-holding : (h : Holding) → Shaped holdingShape h → (d e f : List ℕ) → e ≡ over d 0 (holdingOctets h) → f ≡ over e 1872 (replicate 432 0) → f ≡ over d 0 (holdingLaid h)
 unfolding holdingLaid
 all-of-holding h x d e f p q =
     let l : 1872 ≡ 0 + length (holdingOctets h) = omega (arith, length-holding h x) in
@@ -172,7 +173,7 @@ all-of-holding h x d e f p q =
 
 pub all-of-session :
     (s : Session) →
-    Shaped (s .group) →
+    Shaped holdingShape (s .group) →
     (d e f g : List ℕ) →
     e ≡ over d 0 (sessionHead s) →
     f ≡ over e 32 (holdingOctets (s .group)) →
@@ -206,11 +207,11 @@ module _ (o : List ℕ) (h : Holding) where
   unfolding holdingIn isHolding
   holding-there e q = let z : isLaid o (holdingLaid (holdingAt o 0)) ≡ true = ap (λ (y : Holding). isLaid o (holdingLaid y)) (sym q) ∙ e in q ∙ simp z
 
-  pub holding-none : (g : Holding) → isLaid o (holdingLaid g) ≡ false → g ≡ holdingAt o 0 → h ≡ nothing → h ≡ holdingIn o
+  pub holding-none : (g : Holding) → isLaid o (holdingLaid g) ≡ false → g ≡ holdingAt o 0 → h ≡ nothing holdingShape → h ≡ holdingIn o
   unfolding holdingIn isHolding
   holding-none g e q n = let z : isLaid o (holdingLaid (holdingAt o 0)) ≡ false = ap (λ (y : Holding). isLaid o (holdingLaid y)) (sym q) ∙ e in n ∙ simp z
 
-  pub holding-short : length o < 2304 → h ≡ nothing → h ≡ holdingIn o
+  pub holding-short : length o < 2304 → h ≡ nothing holdingShape → h ≡ holdingIn o
   unfolding holdingIn isHolding isLaid
   holding-short k n = n ∙ simp (too-short o k)
 
@@ -219,11 +220,11 @@ module _ (o : List ℕ) (s : Session) where
   unfolding sessionIn isSession
   session-there e q = let z : isLaid o (sessionLaid (sessionAt o)) ≡ true = ap (λ (y : Session). isLaid o (sessionLaid y)) (sym q) ∙ e in q ∙ simp z
 
-  pub session-none : (t : Session) → isLaid o (sessionLaid t) ≡ false → t ≡ sessionAt o → s ≡ neverOpened → s ≡ sessionIn o
+  pub session-none : (t : Session) → isLaid o (sessionLaid t) ≡ false → t ≡ sessionAt o → s ≡ neverOpened holdingShape → s ≡ sessionIn o
   unfolding sessionIn isSession
   session-none t e q n = let z : isLaid o (sessionLaid (sessionAt o)) ≡ false = ap (λ (y : Session). isLaid o (sessionLaid y)) (sym q) ∙ e in n ∙ simp z
 
-  pub session-short : length o < 2304 → s ≡ neverOpened → s ≡ sessionIn o
+  pub session-short : length o < 2304 → s ≡ neverOpened holdingShape → s ≡ sessionIn o
   unfolding sessionIn isSession isLaid
   session-short k n = n ∙ simp (too-short o k)
 

@@ -9,6 +9,7 @@ use Rattle.octets.specs.Octets.{shifted, twoOctets, fourOctets}
 use Rattle.octets.proofs.OctetsLaws.{length-two, length-four}
 use Rattle.form.specs.declared.Form.{Form}
 use Rattle.form.specs.declared.Form.the-variants.{HeaderFree, Interleaved}
+use Rattle.frame.specs.Shape.{holdingShape}
 use Rattle.holding.specs.Group.{Shaped}
 use Rattle.holding.specs.declared.Holding.{Holding}
 use Rattle.session.specs.declared.Session.{Session}
@@ -51,7 +52,7 @@ module _ (h : Holding) where
   unfolding numberOctets
   length-numbers = length-append (A ++ B ++ C ++ D) (replicate 4 0) ∙ omega (arith, length-abcd)
 
-  module _ (x : Shaped h) where
+  module _ (x : Shaped holdingShape h) where
     pub length-f : length F ≡ 8
     length-f = length-map (h .held) flagOctet ∙ x .long-held
 
@@ -122,10 +123,10 @@ module _ (s : Session) where
   unfolding sessionHead
   length-head = length-append (O ++ G ++ S ++ P ++ Q) (replicate 19 0) ∙ omega (arith, length-ogspq)
 
-  pub length-grouped : Shaped (s .group) → length (sessionHead s ++ holdingOctets (s .group)) ≡ 1904
+  pub length-grouped : Shaped holdingShape (s .group) → length (sessionHead s ++ holdingOctets (s .group)) ≡ 1904
   length-grouped x = length-append (sessionHead s) (holdingOctets (s .group)) ∙ ap₂ _+_ length-head (length-holding (s .group) x)
 
-  pub length-session-laid : Shaped (s .group) → length (sessionLaid s) ≡ 2304
+  pub length-session-laid : Shaped holdingShape (s .group) → length (sessionLaid s) ≡ 2304
   unfolding sessionLaid
   length-session-laid x =
       length-append (sessionHead s ++ holdingOctets (s .group)) (replicate 400 0) ∙ ap₂ _+_ (length-grouped x) (length-replicate {A = ℕ} 400 0)

@@ -4,7 +4,7 @@ use mathlib.Core.Bool.{cond}
 use mathlib.Core.List.{List}
 use lib.ListN.{replicate}
 use Rattle.octets.specs.Octets.{over}
-use Rattle.frame.specs.FrameTable.{FrameTable}
+use Rattle.frame.specs.Shape.{Voice, holdingShape}
 use Rattle.answers.specs.Outputs.{Made}
 use Rattle.form.specs.declared.Form.{Form}
 use Rattle.answers.specs.declared.Refusal.the-variants.{NoRoom}
@@ -15,6 +15,7 @@ use Rattle.answers.specs.declared.Answer.the-variants as answer
 use Rattle.joining.specs.Joining.{joinOf}
 use Rattle.pouring.specs.Pouring.{poured}
 use Rattle.session.specs.Session.{neverOpened, openedFor, offered, pourMade, ended, copied}
+use Rattle.session.specs.declared.Started.{Started}
 use Rattle.session.specs.declared.Taken.{Taken}
 use Rattle.session.specs.declared.Taken.the-variants as taken
 use Rattle.lending.specs.Laid.{isLong, holdingIn, holdingLaid, sessionIn, sessionLaid}
@@ -44,36 +45,42 @@ layWritten (written.Octets n) o w = over o 0 w
 layWritten (written.Refused r) o w = o
 
 -- ---- opening, offering: "open session (21)", which a session that is too short is not
+
+-- a session opened in octets, whatever they say
+abbrev pub openedIn : ℕ → Form → Started
+openedIn source form = openedFor holdingShape (neverOpened holdingShape) source form
+
+-- the answer to opening: 21, then 15
 unfoldable pub openAnswer : List ℕ → ℕ → Form → Answer
-openAnswer o source form = thenRoom (openedFor neverOpened source form .answer) o
+openAnswer o source form = thenRoom (openedIn source form .answer) o
 
 -- the session's octets after opening
 unfoldable pub openOctets : List ℕ → ℕ → Form → List ℕ
-openOctets o source form = layIf (openAnswer o source form) o (sessionLaid (openedFor neverOpened source form .session))
+openOctets o source form = layIf (openAnswer o source form) o (sessionLaid (openedIn source form .session))
 
 -- the answer to an offer is what the session in the octets answers
-unfoldable pub offerAnswer : FrameTable → List ℕ → ℕ → ℕ → ℕ → List ℕ → Taken
+unfoldable pub offerAnswer : Voice → List ℕ → ℕ → ℕ → ℕ → List ℕ → Taken
 offerAnswer v o source sequence timestamp p = offered v (sessionIn o) source sequence timestamp p .answer
 
 -- the session's octets after an offer
-unfoldable pub offerOctets : FrameTable → List ℕ → ℕ → ℕ → ℕ → List ℕ → List ℕ
+unfoldable pub offerOctets : Voice → List ℕ → ℕ → ℕ → ℕ → List ℕ → List ℕ
 offerOctets v o source sequence timestamp p =
     layTaken (offerAnswer v o source sequence timestamp p) o (sessionLaid (offered v (sessionIn o) source sequence timestamp p .session))
 
 -- ---- pouring, copying out, ending
-unfoldable pub pourOf : FrameTable → List ℕ → Made
+unfoldable pub pourOf : Voice → List ℕ → Made
 pourOf v o = pourMade v (sessionIn o)
 
 -- the session's octets after a pouring
 unfoldable pub pourOctets : List ℕ → Written → List ℕ
-pourOctets o w = layWritten w o (sessionLaid (ended (sessionIn o)))
+pourOctets o w = layWritten w o (sessionLaid (ended holdingShape (sessionIn o)))
 
 -- the answer to copying out: 21, then 15
-unfoldable pub copyAnswer : FrameTable → List ℕ → List ℕ → Answer
+unfoldable pub copyAnswer : Voice → List ℕ → List ℕ → Answer
 copyAnswer v o out = thenRoom (copied v (sessionIn o) .answer) out
 
 -- the holding's octets after copying out
-unfoldable pub copyOctets : FrameTable → List ℕ → List ℕ → List ℕ
+unfoldable pub copyOctets : Voice → List ℕ → List ℕ → List ℕ
 copyOctets v o out = layIf (copyAnswer v o out) out (holdingLaid (copied v (sessionIn o) .holding))
 
 -- the answer to ending: 15, or done
@@ -85,13 +92,13 @@ unfoldable pub endOctets : List ℕ → List ℕ
 endOctets o = layIf (endAnswer o) o (replicate 2304 0)
 
 -- ---- joining, and pouring a holding: 21, 20, 14, then 15
-unfoldable pub joinAnswer : FrameTable → List ℕ → List ℕ → List ℕ → Answer
+unfoldable pub joinAnswer : Voice → List ℕ → List ℕ → List ℕ → Answer
 joinAnswer v a b out = thenRoom (joinOf v (holdingIn a) (holdingIn b) .answer) out
 
 -- the joined holding's octets
-unfoldable pub joinOctets : FrameTable → List ℕ → List ℕ → List ℕ → List ℕ
+unfoldable pub joinOctets : Voice → List ℕ → List ℕ → List ℕ → List ℕ
 joinOctets v a b out = layIf (joinAnswer v a b out) out (holdingLaid (joinOf v (holdingIn a) (holdingIn b) .holding))
 
 -- what pouring a holding makes
-unfoldable pub pourHeld : FrameTable → List ℕ → Made
+unfoldable pub pourHeld : Voice → List ℕ → Made
 pourHeld v o = poured v (holdingIn o)

@@ -8,10 +8,9 @@ use lib.ListN.{length, take, drop, getD, replicate}
 use Rattle.octets.specs.Octets.{shifted, twoAt, fourAt, twoOctets, fourOctets, sameOctets}
 use Rattle.form.specs.declared.Form.{Form}
 use Rattle.form.specs.declared.Form.the-variants.{HeaderFree, Interleaved}
-use Rattle.frame.specs.FrameTable.{FrameTable}
-use Rattle.form.specs.Agreed as form
-use Rattle.holding.specs.Group as group
-use Rattle.holding.specs.Group.{nothing}
+use Rattle.frame.specs.Shape.{Voice, holdingShape}
+use Rattle.form.specs.Agreed.{voiceFor}
+use Rattle.holding.specs.Group.{nothing, voiceIn}
 use Rattle.holding.specs.declared.Holding.{Holding}
 use Rattle.session.specs.Session.{neverOpened}
 use Rattle.session.specs.declared.Session.{Session}
@@ -73,7 +72,7 @@ isHolding o = isLaid o (holdingLaid (holdingAt o 0))
 
 -- "octets that are no holding" count as one that holds no packet
 unfoldable pub holdingIn : List ℕ → Holding
-holdingIn o = cond (isHolding o) (holdingAt o 0) nothing
+holdingIn o = cond (isHolding o) (holdingAt o 0) (nothing holdingShape)
 
 -- ---- a session: 32 octets, and its group
 
@@ -121,12 +120,12 @@ isSession o = isLaid o (sessionLaid (sessionAt o))
 
 -- "octets that are no session" count as one never opened
 unfoldable pub sessionIn : List ℕ → Session
-sessionIn o = cond (isSession o) (sessionAt o) neverOpened
+sessionIn o = cond (isSession o) (sessionAt o) (neverOpened holdingShape)
 
--- the frame table of the session in octets that a host lends
-abbrev pub sessionTable : List ℕ → FrameTable
-sessionTable o = form.tableOf (sessionIn o .form)
+-- the voice of the session in octets that a host lends
+abbrev pub sessionVoice : List ℕ → Voice
+sessionVoice o = voiceFor (sessionIn o .form)
 
--- the frame table of the holding
-abbrev pub holdingTable : List ℕ → FrameTable
-holdingTable o = group.tableOf (holdingIn o)
+-- the voice of the holding
+abbrev pub holdingVoice : List ℕ → Voice
+holdingVoice o = voiceIn (holdingIn o)

@@ -16,7 +16,7 @@ ghost use Rattle.answers.specs.Outputs.{Writes};
 ghost use Rattle.octets.specs.Octets.{over, shifted};
 ghost use Rattle.lending.specs.Calls.{openAnswer, openOctets, offerAnswer, offerOctets, pourOf, pourOctets, copyAnswer};
 ghost use Rattle.lending.specs.Calls.{copyOctets, endAnswer, endOctets, joinAnswer, joinOctets, pourHeld, roomIn, layIf};
-ghost use Rattle.lending.specs.Laid.{sessionTable, holdingTable, flagOctet, isSet, numberOctets, frameOctets, holdingOctets, holdingAt, isLaid};
+ghost use Rattle.lending.specs.Laid.{sessionVoice, holdingVoice, flagOctet, isSet, numberOctets, frameOctets, holdingOctets, holdingAt, isLaid};
 ghost use Rattle.lending.specs.Laid.{holdingIn, holdingLaid, formOctets, formAt, lastOctets, sessionHead, sessionLaid};
 ghost use Rattle.lending.specs.Laid.{sessionAt, sessionIn};
 
@@ -348,8 +348,8 @@ pub fn offer(
     timestamp: u32,
     payload: &[u8],
 ) -> Taken
-    ensures { λ r. ⌜ (r ≡ offerAnswer (sessionTable (now (session .entry))) (now (session .entry)) source sequence timestamp (now (payload .entry)))
-        × (now (session .exit) ≡ offerOctets (sessionTable (now (session .entry))) (now (session .entry)) source sequence timestamp (now (payload .entry))) ⌝ }
+    ensures { λ r. ⌜ (r ≡ offerAnswer (sessionVoice (now (session .entry))) (now (session .entry)) source sequence timestamp (now (payload .entry)))
+        × (now (session .exit) ≡ offerOctets (sessionVoice (now (session .entry))) (now (session .entry)) source sequence timestamp (now (payload .entry))) ⌝ }
 {
     let before = session_in(session);
     let offered = session::offer(before, source, sequence, timestamp, payload);
@@ -366,7 +366,7 @@ pub fn offer(
 
 // Pours the held group into out and ends it.
 pub fn pour(session: &mut [u8], out: &mut [u8]) -> Written
-    ensures { λ r. ⌜ Writes (pourOf (sessionTable (now (session .entry))) (now (session .entry))) (now (out .entry)) r (now (out .exit))
+    ensures { λ r. ⌜ Writes (pourOf (sessionVoice (now (session .entry))) (now (session .entry))) (now (out .entry)) r (now (out .exit))
         × (now (session .exit) ≡ pourOctets (now (session .entry)) r) ⌝ }
 {
     let before = session_in(session);
@@ -384,8 +384,8 @@ pub fn pour(session: &mut [u8], out: &mut [u8]) -> Written
 
 // Copies the held group out.
 pub fn copy_out(session: &[u8], out: &mut [u8]) -> Answer
-    ensures { λ r. ⌜ (r ≡ copyAnswer (sessionTable (now (session .entry))) (now (session .entry)) (now (out .entry)))
-        × (now (out .exit) ≡ copyOctets (sessionTable (now (session .entry))) (now (session .entry)) (now (out .entry))) ⌝ }
+    ensures { λ r. ⌜ (r ≡ copyAnswer (sessionVoice (now (session .entry))) (now (session .entry)) (now (out .entry)))
+        × (now (out .exit) ≡ copyOctets (sessionVoice (now (session .entry))) (now (session .entry)) (now (out .entry))) ⌝ }
 {
     let copied = session::copy_out(session_in(session));
     let answer = copied.answer;
@@ -411,8 +411,8 @@ pub fn end(session: &mut [u8]) -> Answer
 
 // Joins two holdings.
 pub fn join(a: &[u8], b: &[u8], out: &mut [u8]) -> Answer
-    ensures { λ r. ⌜ (r ≡ joinAnswer (holdingTable (now (a .entry))) (now (a .entry)) (now (b .entry)) (now (out .entry)))
-        × (now (out .exit) ≡ joinOctets (holdingTable (now (a .entry))) (now (a .entry)) (now (b .entry)) (now (out .entry))) ⌝ }
+    ensures { λ r. ⌜ (r ≡ joinAnswer (holdingVoice (now (a .entry))) (now (a .entry)) (now (b .entry)) (now (out .entry)))
+        × (now (out .exit) ≡ joinOctets (holdingVoice (now (a .entry))) (now (a .entry)) (now (b .entry)) (now (out .entry))) ⌝ }
 {
     let joined = joining::join(holding_in(a), holding_in(b));
     let answer = joined.answer;
@@ -427,7 +427,7 @@ pub fn join(a: &[u8], b: &[u8], out: &mut [u8]) -> Answer
 
 // Pours a holding.
 pub fn pour_holding(holding: &[u8], out: &mut [u8]) -> Written
-    ensures { λ r. ⌜ Writes (pourHeld (holdingTable (now (holding .entry))) (now (holding .entry))) (now (out .entry)) r (now (out .exit)) ⌝ }
+    ensures { λ r. ⌜ Writes (pourHeld (holdingVoice (now (holding .entry))) (now (holding .entry))) (now (out .entry)) r (now (out .exit)) ⌝ }
 {
     pouring::pour(holding_in(holding), out)
 }

@@ -75,7 +75,17 @@ module _ (s : List ℕ) (i : ℕ) (left : allZero s ≡ allZero (drop i s)) wher
   unfolding allZero
   zero-end h = let p : drop i s ≡ [] = drop-of-length-le s h in sym (left ∙ simp p)
 
+pub zero-list : (n : ℕ) → allZero (replicate n 0) ≡ true
+unfolding allZero
+zero-list zero = refl
+zero-list (suc n) = zero-list n
+
 -- ---- anySet
+
+pub none-set : (n : ℕ) → anySet (replicate n false) ≡ false
+unfolding anySet
+none-set zero = refl
+none-set (suc n) = none-set n
 
 module _ (s : List Bool) (i : ℕ) (left : anySet s ≡ anySet (drop i s)) where
   pub any-again : i < length s → getD s i false ≡ false → anySet s ≡ anySet (drop (i + 1) s)

@@ -1,8 +1,9 @@
 -- A region of a list, as the code cuts it. Assumes nothing.
-use Prim.Native.Nat.{ℕ, _+_, _-_, _*_, _≤_}
+use Prim.Native.Nat.{ℕ, _+_, _-_, _*_, _≤_, _<_}
 use mathlib.Core.Path.{_≡_}
 use mathlib.Core.List.{List}
 use native.Mathlib.Omega.{arith}
+use native.Mathlib.Nat.{mul-suc, mul-le-mul-left}
 use lib.Seq.{drop-drop}
 use lib.ListN.{length, take, drop, length-take, length-drop}
 use Rattle.octets.specs.Octets.{region}
@@ -20,6 +21,10 @@ cut-is xs s n = part-is xs (s * n) s
 
 pub length-cut : (xs : List ℕ) (s n : ℕ) → s * n + s ≤ length xs → length (cutAt xs s n) ≡ s
 length-cut xs s n h = simp (length-take, length-drop) (omega arith)
+
+-- a region before the m-th ends where that begins, or before
+pub region-fits : (s n m : ℕ) → n < m → s * n + s ≤ s * m
+region-fits s n m h = omega (arith, mul-le-mul-left s h, mul-suc s n)
 
 pub length-region : (xs : List ℕ) (s n : ℕ) → s * n + s ≤ length xs → length (region xs s n) ≡ s
 unfolding region

@@ -2,7 +2,7 @@
 use Prim.Native.Nat.{ℕ, _+_, _*_, _-_, _≤_, _<_}
 use mathlib.Core.Path.{_≡_, refl, sym, ap, _∙_}
 use mathlib.Core.List.{List, [], _∷_}
-use mathlib.Core.Bool.{Bool, true, false, cond}
+use mathlib.Core.Bool.{Bool, true, false}
 use native.Mathlib.Omega.{arith}
 use lib.ListN.{length, drop, getD, length-drop}
 use lib.Seq.{take-all}
@@ -16,15 +16,16 @@ use Rattle.form.specs.declared.Limits.{Limits}
 use Rattle.form.specs.declared.Opened.the-variants as limits
 use Rattle.form.specs.declared.Form.the-variants.{HeaderFree, Interleaved}
 use Rattle.answers.specs.declared.Refusal.{Refusal}
-use Rattle.answers.specs.declared.Refusal.the-variants.{ReservedType, BodyCut, IndexPastLength, LengthPastMaximum, TooManyFrames}
+use Rattle.answers.specs.declared.Refusal.the-variants.{IndexPastLength, LengthPastMaximum, TooManyFrames}
 use Rattle.answers.specs.declared.Refusal.the-variants.{NotSendable, NotApplicable}
 use Rattle.form.proofs.AgreedLaws.{opened-agreed, opened-refused, range-bounds}
 use Rattle.entries.specs.Kind.{Kind}
-use Rattle.entries.specs.Entries.{EntriesRead, frames, put, frameOf, entries, allowed, entriesIn, framesIn}
+use Rattle.entries.specs.Entries.{EntriesRead, frames, frameOf, entries, allowed, entriesIn, framesIn}
 use Rattle.entries.specs.Entries as entry
 use Rattle.entries.specs.Counting.{countedOf}
 use Rattle.entries.specs.declared.Counted.the-variants as counted
 use Rattle.entries.specs.declared.Rule.the-variants as rule
+use Rattle.entries.proofs.Walking.{entryIf}
 use Rattle.entries.proofs.Clearing.{read-any}
 use Rattle.entries.proofs.EntriesLaws.{entry as inverted}
 use Rattle.packet.specs.Packet.{packetFrames, packed, groupIn}
@@ -81,7 +82,7 @@ module _ (l n b d : ℕ) (w : EntriesRead) where
   group-refused r e = go w e
     where
       go : (u : EntriesRead) → counted.Refused r ≡ countedOf u → packetOfGroup l n b d u ≡ refusedOutput r
-      go (entry.refusedEntries r′) x = let y : r′ ≡ r = cc in ap refusedOutput y
+      go (entry.refusedEntries f) x = let y : f .refusal ≡ r = cc in ap refusedOutput y
       go (frames fs) x = apart (cc)
 
   module _ (c : ℕ) (e : counted.Frames c ≡ countedOf w) where
@@ -90,7 +91,7 @@ module _ (l n b d : ℕ) (w : EntriesRead) where
     frames-of = go w refl e
       where
         go : (u : EntriesRead) → w ≡ u → counted.Frames c ≡ countedOf u → (fs : List Frame) × (w ≡ frames fs) × (c ≡ length fs)
-        go (entry.refusedEntries r) q x = apart (cc)
+        go (entry.refusedEntries f) q x = apart (cc)
         go (frames fs) q x = (fs, q, cc)
 
     pub group-count : (c ≡ (l + 1) * b → ⊥) → packetOfGroup l n b d w ≡ refusedOutput NotSendable
@@ -116,12 +117,12 @@ group-made kind l n b d c es e h =
 -- ---- the header-free writer
 pub body-refused : (w : EntriesRead) (r : Refusal) → counted.Refused r ≡ countedOf w → oneBody w ≡ refusedOutput r
 unfolding oneBody countedOf
-body-refused (entry.refusedEntries r′) r x = let y : r′ ≡ r = cc in ap refusedOutput y
+body-refused (entry.refusedEntries f) r x = let y : f .refusal ≡ r = cc in ap refusedOutput y
 body-refused (frames fs) r x = apart (cc)
 
 pub body-count : (w : EntriesRead) (c : ℕ) → counted.Frames c ≡ countedOf w → (c ≡ 1 → ⊥) → oneBody w ≡ refusedOutput NotSendable
 unfolding oneBody countedOf
-body-count (entry.refusedEntries r) c x h = apart (cc)
+body-count (entry.refusedEntries f) c x h = apart (cc)
 body-count (frames []) c x h = refl
 body-count (frames (f ∷ [])) c x h = absurd (h (cc))
 body-count (frames (f ∷ g ∷ fs)) c x h = refl
@@ -131,38 +132,31 @@ pub record One (kind : Kind) (es : List ℕ) : Type 0 where
   pub made : oneBody (entriesIn kind rule.HeaderFree es) ≡ octets (drop 1 es)
   pub some : 1 ≤ length es
 
-no-more : (kind : Kind) (ok : Frame → Bool) (p : List ℕ) → entries kind ok 0 p ≡ frames [] → length p ≤ 0
+no-more : (kind : Kind) (ok : Frame → Bool) (at : ℕ) (p : List ℕ) → entries kind ok at 0 p ≡ frames [] → length p ≤ 0
 unfolding entries
-no-more kind ok [] e = omega arith
-no-more kind ok (x ∷ p) e = go (known (kind .table) (kind .typeOf x)) (ltb (length p) (size (kind .table) (kind .typeOf x))) (ok (frameOf kind x p)) e
+no-more kind ok at [] e = omega arith
+no-more kind ok at (x ∷ p) e =
+    let s = size (kind .table) (kind .typeOf x) in
+    go (entries kind ok (at + 1) s p) (known (kind .table) (kind .typeOf x)) (ltb (length p) s) (ok (frameOf kind x p)) e
   where
-    none : (w : EntriesRead) → put (frameOf kind x p) w ≡ frames [] → length (x ∷ p) ≤ 0
-    none (frames fs) q = apart (cc)
-    none (entry.refusedEntries r) q = apart (cc)
-
-    go :
-        (a b c : Bool) →
-        cond a
-        (cond b (entry.refusedEntries BodyCut) (cond c (put (frameOf kind x p) (entries kind ok (size (kind .table) (kind .typeOf x)) p)) (entry.refusedEntries NotSendable)))
-        (entry.refusedEntries ReservedType)
-        ≡ frames [] →
-        length (x ∷ p) ≤ 0
-    go false b c q = apart (cc)
-    go true true c q = apart (cc)
-    go true false false q = apart (cc)
-    go true false true q = none (entries kind ok (size (kind .table) (kind .typeOf x)) p) q
+    go : (w : EntriesRead) (a b c : Bool) → entryIf at (frameOf kind x p) w a b c ≡ frames [] → length (x ∷ p) ≤ 0
+    go w false b c q = apart (cc)
+    go w true true c q = apart (cc)
+    go w true false false q = apart (cc)
+    go (frames fs) true false true q = apart (cc)
+    go (entry.refusedEntries f) true false true q = apart (cc)
 
 pub one-made : (kind : Kind) (es : List ℕ) (c : ℕ) → counted.Frames c ≡ countedOf (entriesIn kind rule.HeaderFree es) → c ≡ 1 → One kind es
 unfolding oneBody countedOf
 one-made kind es c e h = go (entriesIn kind rule.HeaderFree es) refl e
   where
     go : (w : EntriesRead) → entriesIn kind rule.HeaderFree es ≡ w → counted.Frames c ≡ countedOf w → One kind es
-    go (entry.refusedEntries r) q x = apart (cc)
+    go (entry.refusedEntries f) q x = apart (cc)
     go (frames []) q x = let z : c ≡ 0 = cc in absurd (omega arith)
     go (frames (f ∷ g ∷ fs)) q x = let z : c ≡ length (f ∷ g ∷ fs) = cc in absurd (omega arith)
     go (frames (f ∷ [])) q x =
         let y = inverted kind (allowed (kind .table) rule.HeaderFree) es 0 f [] q in
         let s = size (kind .table) (kind .typeOf (getD es 0 0)) in
-        let k = no-more kind (allowed (kind .table) rule.HeaderFree) (drop (0 + 1 + s) es) (y .rest) in
+        let k = no-more kind (allowed (kind .table) rule.HeaderFree) (0 + 1 + s) (drop (0 + 1 + s) es) (y .rest) in
         let b : f .body ≡ drop 1 es = y .body ∙ take-all s (drop 1 es) (omega (arith, length-drop 1 es, length-drop (0 + 1 + s) es)) in
         record { made = rw q (ap octets b); some = omega (arith, y .here) }

@@ -18,7 +18,7 @@ use Rattle.packet.specs.Packet.{packetFrames, packed}
 
 -- "the whole input is walked, each entry for 5, 19, 17; then 17 if the number of entries is not (L + 1) x B"
 unfoldable pub packetOfGroup : ℕ → ℕ → ℕ → ℕ → EntriesRead → Made
-packetOfGroup l n b d (entries.refusedEntries r) = refusedOutput r
+packetOfGroup l n b d (entries.refusedEntries f) = refusedOutput (f .refusal)
 packetOfGroup l n b d (frames fs) =
     cond (eqb (length fs) ((l + 1) * b)) (octets (packed l n d (packetFrames l n b fs))) (refusedOutput NotSendable)
 
@@ -37,7 +37,7 @@ packetMade kind (Interleaved m) l n b d es =
 
 -- "then 17 if there isn't exactly one entry"
 unfoldable pub oneBody : EntriesRead → Made
-oneBody (entries.refusedEntries r) = refusedOutput r
+oneBody (entries.refusedEntries f) = refusedOutput (f .refusal)
 oneBody (frames []) = refusedOutput NotSendable
 oneBody (frames (f ∷ [])) = octets (f .body)
 oneBody (frames (f ∷ g ∷ fs)) = refusedOutput NotSendable

@@ -14,6 +14,7 @@ use Rattle.form.specs.Agreed.{opened}
 use Rattle.form.specs.declared.Limits.{Limits}
 use Rattle.form.specs.declared.Opened.the-variants as limits
 use Rattle.form.specs.declared.Form.the-variants.{HeaderFree, Interleaved}
+use Rattle.answers.specs.Faults.{faultPlain}
 use Rattle.answers.specs.declared.Refusal.{Refusal}
 use Rattle.answers.specs.declared.Refusal.the-variants.{NoOctet, IndexPastLength, LengthPastMaximum, BodiesCut, OctetsLeft}
 use Rattle.answers.specs.declared.Refusal.the-variants.{HeaderFreeLength}
@@ -28,9 +29,9 @@ use Rattle.payload.proofs.Tables.{Counted, counted}
 
 headed : FrameTable → Limits → ℕ → List ℕ → Reading
 headed v m h es =
-    cond (ltb (lOf h) (nOf h)) (refusedPayload IndexPastLength)
-    (cond (ltb (m .«max_l») (lOf h)) (refusedPayload LengthPastMaximum)
-    (bodies v (lOf h) (nOf h) (toc v (m .«max_b») 0 es)))
+    cond (ltb (lOf h) (nOf h)) (refusedPayload (faultPlain IndexPastLength))
+    (cond (ltb (m .«max_l») (lOf h)) (refusedPayload (faultPlain LengthPastMaximum))
+    (bodies v (lOf h) (nOf h) (toc v (m .«max_b») 0 1 es)))
 
 has-head : (v : FrameTable) (m : Limits) (p : List ℕ) → 1 ≤ length p → interleaved v m p ≡ headed v m (getD p 0 0) (drop 1 p)
 unfolding headed interleaved
@@ -59,21 +60,21 @@ module _ (v : FrameTable) (m : Limits) (p : List ℕ) (h : 1 ≤ length p) where
 
     -- the checks before the walk are passed
     module _ (l : lOf (getD p 0 0) ≤ m .«max_l») where
-      begun : interleaved v m p ≡ bodies v (lOf (getD p 0 0)) (nOf (getD p 0 0)) (toc v (m .«max_b») 0 (drop 1 p))
+      begun : interleaved v m p ≡ bodies v (lOf (getD p 0 0)) (nOf (getD p 0 0)) (toc v (m .«max_b») 0 1 (drop 1 p))
       unfolding headed
       begun = has-head v m p h ∙ simp (le-ltb _ _ n, le-ltb _ _ l)
 
-      pub at-fault : (r : Refusal) → entries.Fault r ≡ walked v (toc v (m .«max_b») 0 (drop 1 p)) → Refused r ≡ contentsOf (interleaved v m p)
+      pub at-fault : (r : Refusal) → entries.Fault r ≡ walked v (toc v (m .«max_b») 0 1 (drop 1 p)) → Refused r ≡ contentsOf (interleaved v m p)
       unfolding walked bodies contentsOf
-      at-fault r e = sym (ap contentsOf begun ∙ go (toc v (m .«max_b») 0 (drop 1 p)) e)
+      at-fault r e = sym (ap contentsOf begun ∙ go (toc v (m .«max_b») 0 1 (drop 1 p)) e)
         where
           go : (w : Toc) → entries.Fault r ≡ walked v w → contentsOf (bodies v (lOf (getD p 0 0)) (nOf (getD p 0 0)) w) ≡ Refused r
-          go (contents ts d rest) q = apart (cc)
-          go (fault r′) q = cc
+          go (contents ts d at rest) q = apart (cc)
+          go (fault f) q = cc
 
       -- the walk went through
-      module _ (c s d : ℕ) (e : entries.Whole c s d ≡ walked v (toc v (m .«max_b») 0 (drop 1 p))) where
-        yields : Counted v (m .«max_b») (drop 1 p) (toc v (m .«max_b») 0 (drop 1 p)) c s d
+      module _ (c s d : ℕ) (e : entries.Whole c s d ≡ walked v (toc v (m .«max_b») 0 1 (drop 1 p))) where
+        yields : Counted v (m .«max_b») (drop 1 p) (toc v (m .«max_b») 0 1 (drop 1 p)) c s d
         yields = counted v (m .«max_b») (drop 1 p) c s d e
 
         left : length (yields .rest) ≡ length p - 1 - c

@@ -20,6 +20,7 @@ use Rattle.frame.specs.declared.Lookup.{Lookup}
 use Rattle.frame.specs.declared.Lookup.the-variants.{Found, Missing}
 use Rattle.form.specs.declared.Form.{Form}
 use Rattle.form.specs.declared.Form.the-variants.{HeaderFree, Interleaved}
+use Rattle.answers.specs.Faults.{Fault, faultPlain}
 use Rattle.answers.specs.declared.Refusal.{Refusal}
 use Rattle.answers.specs.declared.Refusal.the-variants.{NotApplicable, HeaderFreeLength}
 use Rattle.frame.specs.declared.Located.the-variants as located
@@ -78,15 +79,16 @@ cut-laid v (t ∷ ts) p h q =
     )
 
 -- ---- a payload that was read as a packet
-passed : (b : Bool) (r : Refusal) (x : Reading) (l n d : ℕ) (fs : List Frame) → cond b (refusedPayload r) x ≡ packet l n d fs → (b ≡ false) × (x ≡ packet l n d fs)
-passed true r x l n d fs e = apart (cc)
-passed false r x l n d fs e = (refl, e)
+passed : (b : Bool) (f : Fault) (x : Reading) (l n d : ℕ) (fs : List Frame) → cond b (refusedPayload f) x ≡ packet l n d fs → (b ≡ false) × (x ≡ packet l n d fs)
+passed true f x l n d fs e = apart (cc)
+passed false f x l n d fs e = (refl, e)
 
 -- octet 0, the table of contents and the bodies that its frames were cut from
 pub record Framed (v : FrameTable) (m : Limits) (p : List ℕ) (l n d : ℕ) (fs : List Frame) : Type 0 where
   pub head : ℕ
   pub es : List ℕ
   pub ts : List ℕ
+  pub behind : ℕ
   pub rest : List ℕ
   pub split : p ≡ head ∷ es
   pub range : inRange m ≡ true
@@ -94,7 +96,7 @@ pub record Framed (v : FrameTable) (m : Limits) (p : List ℕ) (l n d : ℕ) (fs
   pub n-is : nOf head ≡ n
   pub index : nOf head ≤ lOf head
   pub short : lOf head ≤ m .«max_l»
-  pub toc-is : toc v (m .«max_b») 0 es ≡ contents ts d rest
+  pub toc-is : toc v (m .«max_b») 0 1 es ≡ contents ts d behind rest
   pub whole : Whole (m .«max_b») 0 es ts rest
   pub full : length rest ≡ total v ts
   pub frames : fs ≡ cut v ts rest
@@ -105,13 +107,13 @@ framed-table :
     nOf x ≤ lOf x →
     lOf x ≤ m .«max_l» →
     (w : Toc) →
-    toc v (m .«max_b») 0 es ≡ w →
+    toc v (m .«max_b») 0 1 es ≡ w →
     Sound (m .«max_b») 0 es w →
     bodies v (lOf x) (nOf x) w ≡ packet l n d fs →
     Framed v m (x ∷ es) l n d fs
 unfolding bodies
-framed-table v m l n d x es fs g i s (fault r) q h e = apart (cc)
-framed-table v m l n d x es fs g i s (contents ts d′ rest) q h e =
+framed-table v m l n d x es fs g i s (fault f) q h e = apart (cc)
+framed-table v m l n d x es fs g i s (contents ts d′ at rest) q h e =
     let a = passed (ltb (length rest) (total v ts)) _ _ l n d fs e in
     let b = passed (ltb (total v ts) (length rest)) _ _ l n d fs (a .1) in
     let z : d′ ≡ d = cc (b .1) in
@@ -119,6 +121,7 @@ framed-table v m l n d x es fs g i s (contents ts d′ rest) q h e =
       head = x;
       es = es;
       ts = ts;
+      behind = at;
       rest = rest;
       split = refl;
       range = g;
@@ -126,7 +129,7 @@ framed-table v m l n d x es fs g i s (contents ts d′ rest) q h e =
       n-is = cc (b .1);
       index = i;
       short = s;
-      toc-is = q ∙ ap (λ (y : ℕ). contents ts y rest) z;
+      toc-is = q ∙ ap (λ (y : ℕ). contents ts y at rest) z;
       whole = h;
       full = omega (arith, ltb-false (length rest) (total v ts) (a .0), ltb-false (total v ts) (length rest) (b .0));
       frames = cc (b .1);
@@ -141,9 +144,9 @@ framed v m p l n d fs e = at-range (inRange m) refl e
     at-list g (x ∷ es) k =
         let a = passed (ltb (lOf x) (nOf x)) _ _ l n d fs k in
         let b = passed (ltb (m .«max_l») (lOf x)) _ _ l n d fs (a .1) in
-        framed-table v m l n d x es fs g (ltb-false _ _ (a .0)) (ltb-false _ _ (b .0)) (toc v (m .«max_b») 0 es) refl (toc-sound v (m .«max_b») 0 es) (b .1)
+        framed-table v m l n d x es fs g (ltb-false _ _ (a .0)) (ltb-false _ _ (b .0)) (toc v (m .«max_b») 0 1 es) refl (toc-sound v (m .«max_b») 0 1 es) (b .1)
 
-    at-range : (b : Bool) → inRange m ≡ b → cond b (interleaved v m p) (refusedPayload NotApplicable) ≡ packet l n d fs → Framed v m p l n d fs
+    at-range : (b : Bool) → inRange m ≡ b → cond b (interleaved v m p) (refusedPayload (faultPlain NotApplicable)) ≡ packet l n d fs → Framed v m p l n d fs
     at-range true g k = at-list g p k
     at-range false g k = apart (cc)
 
@@ -209,12 +212,12 @@ stands v m p l n d fs k o h =
 -- ---- frame k is asked of a type 1 payload
 pub show-refused : (f : Form) (w : Reading) (k : ℕ) (r : Refusal) → Refused r ≡ contentsOf w → located.Refused r ≡ locatedOf (givenOf f w) k
 unfolding contentsOf givenOf
-show-refused f (refusedPayload r′) k r e = let q : r ≡ r′ = cc in ap located.Refused q ∙ asked-refused r′ k
+show-refused f (refusedPayload x) k r e = let q : r ≡ x .refusal = cc in ap located.Refused q ∙ asked-refused x k
 show-refused f (packet l n d fs) k r e = apart (cc)
 
 pub show-past : (f : Form) (w : Reading) (k l n b d : ℕ) → Packet l n b d ≡ contentsOf w → b ≤ k → located.Refused NotApplicable ≡ locatedOf (givenOf f w) k
 unfolding contentsOf givenOf
-show-past f (refusedPayload r) k l n b d e h = apart (cc)
+show-past f (refusedPayload x) k l n b d e h = apart (cc)
 show-past f (packet l′ n′ d′ fs) k l n b d e h = let q : b ≡ length fs = cc in asked-past _ _ fs k (omega arith)
 
 pub record Shows (v : FrameTable) (m : Limits) (p : List ℕ) (k b : ℕ) : Type 0 where
@@ -226,7 +229,7 @@ unfolding contentsOf givenOf givenAs
 shows v m p k l n b d e h = go (readAs v (Interleaved m) p) refl e
   where
     go : (w : Reading) → readAs v (Interleaved m) p ≡ w → Packet l n b d ≡ contentsOf w → Shows v m p k b
-    go (refusedPayload r) q x = apart (cc)
+    go (refusedPayload f) q x = apart (cc)
     go (packet l′ n′ d′ fs) q x =
         let c : b ≡ length fs = cc in
         let h′ : k < length fs = omega arith in
@@ -240,7 +243,7 @@ shows v m p k l n b d e h = go (readAs v (Interleaved m) p) refl e
 -- ---- frame k is asked of a type 2 payload
 pub free-refused : (v : FrameTable) (p : List ℕ) (k : ℕ) → rowOfSize v (length p) ≡ Missing → located.Refused HeaderFreeLength ≡ locatedOf (givenAs v HeaderFree p) k
 unfolding readAs oneBody givenOf givenAs
-free-refused v p k e = rw e (asked-refused HeaderFreeLength k)
+free-refused v p k e = rw e (asked-refused (faultPlain HeaderFreeLength) k)
 
 module _ (v : FrameTable) (p : List ℕ) (k : ℕ) (r : Row) (e : rowOfSize v (length p) ≡ Found r) where
   pub free-past : 0 < k → located.Refused NotApplicable ≡ locatedOf (givenAs v HeaderFree p) k
@@ -259,7 +262,7 @@ free-laid (Found r) p = (take-all (length p) p (omega arith), omega arith, tt)
 
 in-laid : (v : FrameTable) (m : Limits) (p : List ℕ) (w : Reading) → readAs v (Interleaved m) p ≡ w → LaidIn p (givenOf (Interleaved m) w)
 unfolding givenOf
-in-laid v m p (refusedPayload r) e = tt
+in-laid v m p (refusedPayload f) e = tt
 in-laid v m p (packet l n d fs) e = framed-laid v m p l n d fs (framed v m p l n d fs e)
 
 pub laid-as : (v : FrameTable) (f : Form) (p : List ℕ) → LaidIn p (givenAs v f p)

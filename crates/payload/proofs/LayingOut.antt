@@ -26,7 +26,7 @@ module _ (v : FrameTable) (f : Form) (p : List ℕ) where
   read-few s = go (readAs v f p) refl
     where
       go : (w : Reading) → readAs v f p ≡ w → length (framesRead w) ≤ 10
-      go (refusedPayload r) e = omega arith
+      go (refusedPayload x) e = omega arith
       go (packet l n d fs) e = read-is v s f p l n d fs e .few
 
   read-listed : T (single v v) → AllListed v (framesRead (readAs v f p))
@@ -34,11 +34,11 @@ module _ (v : FrameTable) (f : Form) (p : List ℕ) where
   read-listed s = go (readAs v f p) refl
     where
       go : (w : Reading) → readAs v f p ≡ w → AllListed v (framesRead w)
-      go (refusedPayload r) e = tt
+      go (refusedPayload x) e = tt
       go (packet l n d fs) e = read-is v s f p l n d fs e .listed
 
-  pub read-short : T (within 22 v) → T (single v v) → Short (framesRead (readAs v f p))
-  read-short w s = listed-short v w (framesRead (readAs v f p)) (read-listed s)
+  pub read-short : (z : ℕ) → T (within z v) → T (single v v) → Short z (framesRead (readAs v f p))
+  read-short z w s = listed-short z v w (framesRead (readAs v f p)) (read-listed s)
 
 -- what was read is shown: no frame k, or frame k
 pub show-none : (f : Form) (w : Reading) (k : ℕ) (r : Refusal) → Refused r ≡ locatedOf (givenOf f w) k → length (framesRead w) ≤ k

@@ -28,28 +28,28 @@ TypesKnown v [] = Unit {0}
 TypesKnown v (t ∷ ts) = (known v t ≡ true) × TypesKnown v ts
 
 abbrev KnownIn : FrameTable → Toc → Type 0
-KnownIn v (contents ts d rest) = TypesKnown v ts
-KnownIn v (fault r) = Unit {0}
+KnownIn v (contents ts d at rest) = TypesKnown v ts
+KnownIn v (fault f) = Unit {0}
 
 put-known : (v : FrameTable) (t : ℕ) (w : Toc) → known v t ≡ true → KnownIn v w → KnownIn v (put t w)
-put-known v t (contents ts d rest) k h = (k, h)
-put-known v t (fault r) k h = tt
+put-known v t (contents ts d at rest) k h = (k, h)
+put-known v t (fault f) k h = tt
 
 entry-known :
-    (v : FrameTable) (e : ℕ) (es : List ℕ) (w : Toc) (full good on : Bool) →
+    (v : FrameTable) (at e : ℕ) (es : List ℕ) (w : Toc) (full good on : Bool) →
     known v (typeOf e) ≡ good →
     KnownIn v w →
-    KnownIn v (entryIf e es w full good on)
-entry-known v e es w true good on k h = tt
-entry-known v e es w false false on k h = tt
-entry-known v e es w false true true k h = put-known v (typeOf e) w k h
-entry-known v e es w false true false k h = (k, tt)
+    KnownIn v (entryIf at e es w full good on)
+entry-known v at e es w true good on k h = tt
+entry-known v at e es w false false on k h = tt
+entry-known v at e es w false true true k h = put-known v (typeOf e) w k h
+entry-known v at e es w false true false k h = (k, tt)
 
-toc-known : (v : FrameTable) (max at : ℕ) (es : List ℕ) → KnownIn v (toc v max at es)
+toc-known : (v : FrameTable) (max count at : ℕ) (es : List ℕ) → KnownIn v (toc v max count at es)
 unfolding toc
-toc-known v max at [] = tt
-toc-known v max at (e ∷ es) =
-    entry-known v e es (toc v max (at + 1) es) (leb max at) (known v (typeOf e)) (more e) refl (toc-known v max (at + 1) es)
+toc-known v max count at [] = tt
+toc-known v max count at (e ∷ es) =
+    entry-known v at e es (toc v max (count + 1) (at + 1) es) (leb max count) (known v (typeOf e)) (more e) refl (toc-known v max (count + 1) (at + 1) es)
 
 cut-listed : (v : FrameTable) (ts bs : List ℕ) → TypesKnown v ts → total v ts ≤ length bs → AllListed v (cut v ts bs)
 cut-listed v [] bs k h = tt
@@ -68,7 +68,7 @@ pub record IsPacket (v : FrameTable) (l n : ℕ) (fs : List Frame) : Type 0 wher
 
 interleaved-is : (v : FrameTable) (m : Limits) (p : List ℕ) (l n d : ℕ) (fs : List Frame) → Framed v m p l n d fs → IsPacket v l n fs
 interleaved-is v m p l n d fs o =
-    let k : TypesKnown v (o .ts) = subst (KnownIn v) (o .toc-is) (toc-known v (m .«max_b») 0 (o .es)) in
+    let k : TypesKnown v (o .ts) = subst (KnownIn v) (o .toc-is) (toc-known v (m .«max_b») 0 1 (o .es)) in
     let c : length fs ≡ length (o .ts) = ap length (o .frames) ∙ length-cut v (o .ts) (o .rest) in
     let b = range-bounds m (o .range) in
     record {

@@ -20,19 +20,19 @@ use Rattle.payload.specs.declared.Walked.the-variants as entries
 
 pub from-start : (v : FrameTable) (w : Toc) → walkedFrom v 0 0 w ≡ walked v w
 unfolding walkedFrom walked
-from-start v (contents ts d rest) = simp zero-add
-from-start v (fault r) = refl
+from-start v (contents ts d at rest) = simp zero-add
+from-start v (fault f) = refl
 
 from-put : (v : FrameTable) (c s t : ℕ) (w : Toc) → walkedFrom v c s (put t w) ≡ walkedFrom v (c + 1) (s + size v t) w
 unfolding walkedFrom walked
-from-put v c s t (contents ts d rest) =
+from-put v c s t (contents ts d at rest) =
     ap₂ (λ (a b : ℕ). entries.Whole a b d) (omega arith) (sym (add-assoc s (size v t) (total v ts)))
-from-put v c s t (fault r) = refl
+from-put v c s t (fault f) = refl
 
 -- what the walk yields from entry c on, where s octets of bodies are counted, by what stands there
 module _ (v : FrameTable) (max : ℕ) (p : List ℕ) (c s : ℕ) where
   abbrev pub FromHere : Walked → Type 0
-  FromHere e = walkedFrom v c s (toc v max c (drop (c + 1) p)) ≡ e
+  FromHere e = walkedFrom v c s (toc v max c (c + 1) (drop (c + 1) p)) ≡ e
 
   pub at-end : length p ≤ c + 1 → FromHere (entries.Fault TableCut)
   unfolding toc walkedFrom
@@ -53,8 +53,8 @@ module _ (v : FrameTable) (max : ℕ) (p : List ℕ) (c s : ℕ) where
         unfolding toc walkedFrom
         last f = simp (drop-cons p (c + 1) 0 h, lt-leb max c m, k, lt-leb 128 _ f, add-zero)
 
-        pub next : 128 ≤ getD p (c + 1) 0 → FromHere (walkedFrom v (c + 1) (s + r .octets) (toc v max (c + 1) (drop (c + 1 + 1) p)))
+        pub next : 128 ≤ getD p (c + 1) 0 → FromHere (walkedFrom v (c + 1) (s + r .octets) (toc v max (c + 1) (c + 1 + 1) (drop (c + 1 + 1) p)))
         unfolding toc walkedFrom
         next f =
-            let i = from-put v c s (typeOf (getD p (c + 1) 0)) (toc v max (c + 1) (drop (suc (c + 1)) p)) in
+            let i = from-put v c s (typeOf (getD p (c + 1) 0)) (toc v max (c + 1) (suc (c + 1)) (drop (suc (c + 1)) p)) in
             simp (drop-cons p (c + 1) 0 h, lt-leb max c m, k, le-leb 128 _ f, add-one (c + 1)) (simp k at i)

@@ -8,6 +8,7 @@ use lib.ListN.{length, take, drop, length-drop}
 use lib.Dec.{leb}
 use borrow.Author.Tests.{leb-false}
 use Rattle.frame.specs.FrameTable.{FrameTable, known}
+use Rattle.answers.specs.Faults.{faultAt}
 use Rattle.answers.specs.declared.Refusal.the-variants.{TooManyFrames, ReservedType}
 use Rattle.octets.proofs.Logic.{apart}
 use Rattle.frame.specs.Entry.{typeOf, dOf, more}
@@ -16,19 +17,19 @@ use Rattle.payload.specs.Shown.{walked}
 use Rattle.payload.specs.declared.Walked.the-variants as entries
 
 -- the types are those of the first entries, the rest is what follows them, there are some and not too many
-pub record Whole (max at : ℕ) (es ts rest : List ℕ) : Type 0 where
+pub record Whole (max count : ℕ) (es ts rest : List ℕ) : Type 0 where
   pub some : 0 < length ts
-  pub few : at + length ts ≤ max
+  pub few : count + length ts ≤ max
   pub within : length ts ≤ length es
   pub types : ts ≡ take (length ts) (map typeOf es)
   pub follow : rest ≡ drop (length ts) es
 
 abbrev pub Sound : ℕ → ℕ → List ℕ → Toc → Type 0
-Sound max at es (contents ts d rest) = Whole max at es ts rest
-Sound max at es (fault r) = Unit {0}
+Sound max count es (contents ts d at rest) = Whole max count es ts rest
+Sound max count es (fault f) = Unit {0}
 
-put-sound : (max at e : ℕ) (es : List ℕ) (w : Toc) → Sound max (at + 1) es w → Sound max at (e ∷ es) (put (typeOf e) w)
-put-sound max at e es (contents ts d rest) h =
+put-sound : (max count e : ℕ) (es : List ℕ) (w : Toc) → Sound max (count + 1) es w → Sound max count (e ∷ es) (put (typeOf e) w)
+put-sound max count e es (contents ts d at rest) h =
     record {
       some = omega arith;
       few = omega (arith, h .few);
@@ -36,38 +37,39 @@ put-sound max at e es (contents ts d rest) h =
       types = ap (λ (l : List ℕ). typeOf e ∷ l) (h .types);
       follow = h .follow;
     }
-put-sound max at e es (fault r) h = tt
+put-sound max count e es (fault f) h = tt
 
--- the table that begins with entry e, by whether it is full already, the type is good, and another entry follows
-abbrev pub entryIf : ℕ → List ℕ → Toc → Bool → Bool → Bool → Toc
-entryIf e es w full good on =
-    let rest = cond on (put (typeOf e) w) (contents (typeOf e ∷ []) (dOf e) es) in
-    cond full (fault TooManyFrames) (cond good rest (fault ReservedType))
+-- the table that begins with entry e at octet `at`, by whether it is full already, the type is good, and another entry follows
+abbrev pub entryIf : ℕ → ℕ → List ℕ → Toc → Bool → Bool → Bool → Toc
+entryIf at e es w full good on =
+    let rest = cond on (put (typeOf e) w) (contents (typeOf e ∷ []) (dOf e) (at + 1) es) in
+    cond full (fault (faultAt at TooManyFrames)) (cond good rest (fault (faultAt at ReservedType)))
 
 entry-sound :
-    (max at e : ℕ) (es : List ℕ) (w : Toc) (full good on : Bool) →
-    (full ≡ false → at < max) →
-    Sound max (at + 1) es w →
-    Sound max at (e ∷ es) (entryIf e es w full good on)
-entry-sound max at e es w true good on f h = tt
-entry-sound max at e es w false false on f h = tt
-entry-sound max at e es w false true true f h = put-sound max at e es w h
-entry-sound max at e es w false true false f h =
+    (max count at e : ℕ) (es : List ℕ) (w : Toc) (full good on : Bool) →
+    (full ≡ false → count < max) →
+    Sound max (count + 1) es w →
+    Sound max count (e ∷ es) (entryIf at e es w full good on)
+entry-sound max count at e es w true good on f h = tt
+entry-sound max count at e es w false false on f h = tt
+entry-sound max count at e es w false true true f h = put-sound max count e es w h
+entry-sound max count at e es w false true false f h =
     let m = f refl in
     record { some = omega arith; few = omega arith; within = omega arith; types = refl; follow = refl }
 
-pub toc-sound : (v : FrameTable) (max at : ℕ) (es : List ℕ) → Sound max at es (toc v max at es)
+pub toc-sound : (v : FrameTable) (max count at : ℕ) (es : List ℕ) → Sound max count es (toc v max count at es)
 unfolding toc
-toc-sound v max at [] = tt
-toc-sound v max at (e ∷ es) =
-    entry-sound max at e es (toc v max (at + 1) es) (leb max at) (known v (typeOf e)) (more e) (leb-false max at)
-    (toc-sound v max (at + 1) es)
+toc-sound v max count at [] = tt
+toc-sound v max count at (e ∷ es) =
+    entry-sound max count at e es (toc v max (count + 1) (at + 1) es) (leb max count) (known v (typeOf e)) (more e) (leb-false max count)
+    (toc-sound v max (count + 1) (at + 1) es)
 
 -- the walk yielded a table: so there is one, and these are its numbers
 pub record Counted (v : FrameTable) (max : ℕ) (es : List ℕ) (w : Toc) (c s d : ℕ) : Type 0 where
   pub ts : List ℕ
+  pub behind : ℕ
   pub rest : List ℕ
-  pub is : w ≡ contents ts d rest
+  pub is : w ≡ contents ts d behind rest
   pub count : c ≡ length ts
   pub octets : s ≡ total v ts
   pub left : length rest ≡ length es - c
@@ -76,14 +78,15 @@ pub record Counted (v : FrameTable) (max : ℕ) (es : List ℕ) (w : Toc) (c s d
 
 counted-table : (v : FrameTable) (max : ℕ) (es : List ℕ) (w : Toc) (c s d : ℕ) → Sound max 0 es w → entries.Whole c s d ≡ walked v w → Counted v max es w c s d
 unfolding walked
-counted-table v max es (fault r) c s d h e = apart (cc)
-counted-table v max es (contents ts d′ rest) c s d h e =
+counted-table v max es (fault f) c s d h e = apart (cc)
+counted-table v max es (contents ts d′ at rest) c s d h e =
     let q : c ≡ length ts = cc in
     let k : d′ ≡ d = cc in
     record {
       ts = ts;
+      behind = at;
       rest = rest;
-      is = ap (λ (x : ℕ). contents ts x rest) k;
+      is = ap (λ (x : ℕ). contents ts x at rest) k;
       count = q;
       octets = cc;
       left = ap length (h .follow) ∙ length-drop (length ts) es ∙ ap (λ (x : ℕ). length es - x) (sym q);
@@ -91,5 +94,5 @@ counted-table v max es (contents ts d′ rest) c s d h e =
       within = omega (arith, h .within);
     }
 
-pub counted : (v : FrameTable) (max : ℕ) (es : List ℕ) (c s d : ℕ) → entries.Whole c s d ≡ walked v (toc v max 0 es) → Counted v max es (toc v max 0 es) c s d
-counted v max es c s d e = counted-table v max es (toc v max 0 es) c s d (toc-sound v max 0 es) e
+pub counted : (v : FrameTable) (max : ℕ) (es : List ℕ) (c s d : ℕ) → entries.Whole c s d ≡ walked v (toc v max 0 1 es) → Counted v max es (toc v max 0 1 es) c s d
+counted v max es c s d e = counted-table v max es (toc v max 0 1 es) c s d (toc-sound v max 0 1 es) e

@@ -19,7 +19,7 @@ use Rattle.payload.specs.declared.Walked.the-variants as entries
 -- "B is the number of entries."
 unfoldable pub contentsOf : Reading → Contents
 contentsOf (packet l n d fs) = Packet l n (length fs) d
-contentsOf (refusedPayload r) = Refused r
+contentsOf (refusedPayload f) = Refused (f .refusal)
 
 -- the octets before the first of b bodies: octet 0 and the b entries, or none
 abbrev pub headOf : Form → ℕ → ℕ
@@ -28,8 +28,8 @@ headOf (Interleaved m) b = 1 + b
 
 -- the frames, and where they lie: the bodies stand one after the other
 unfoldable pub givenOf : Form → Reading → Given
-givenOf f (packet l n d fs) = frames (headOf f (length fs)) 0 fs
-givenOf f (refusedPayload r) = places.refusedFrames r
+givenOf form (packet l n d fs) = frames (headOf form (length fs)) 0 fs
+givenOf form (refusedPayload f) = places.refusedFrames f
 
 -- what a reader gives of a payload in the agreed form
 unfoldable pub givenAs : FrameTable → Form → List ℕ → Given
@@ -37,15 +37,15 @@ givenAs v f p = givenOf f (readAs v f p)
 
 -- what the walk over the entries yields: count, size and D, or the fault
 unfoldable pub walked : FrameTable → Toc → Walked
-walked v (contents ts d rest) = entries.Whole (length ts) (total v ts) d
-walked v (fault r) = entries.Fault r
+walked v (contents ts d at rest) = entries.Whole (length ts) (total v ts) d
+walked v (fault f) = entries.Fault (f .refusal)
 
 -- the same, after c entries whose bodies take s octets
 unfoldable pub walkedFrom : FrameTable → ℕ → ℕ → Toc → Walked
-walkedFrom v c s (contents ts d rest) = entries.Whole (c + length ts) (s + total v ts) d
-walkedFrom v c s (fault r) = entries.Fault r
+walkedFrom v c s (contents ts d at rest) = entries.Whole (c + length ts) (s + total v ts) d
+walkedFrom v c s (fault f) = entries.Fault (f .refusal)
 
 -- the frames that a payload was read as; none on a refusal
 unfoldable pub framesRead : Reading → List Frame
 framesRead (packet l n d fs) = fs
-framesRead (refusedPayload r) = []
+framesRead (refusedPayload f) = []

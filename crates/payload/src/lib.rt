@@ -12,6 +12,7 @@ ghost use Prim.Native.Nat.{_+_, _<_};
 ghost use mathlib.Core.List.{map};
 ghost use lib.ListN.{length, drop, take};
 ghost use Rattle.bundle.specs.LaidOut.{laid};
+ghost use Rattle.frame.specs.Shape.{holdingShape};
 ghost use Rattle.form.specs.declared.Form.the-variants.{HeaderFree, Interleaved};
 ghost use Rattle.frame.specs.Entry.{typeOf};
 ghost use Rattle.frame.specs.FrameTable.{rowsOf};
@@ -35,7 +36,7 @@ pub enum Walked {
 
 // The walk over the table of contents, which ends at the first fault it meets.
 fn walk(vocoder: Vocoder, max_b: u8, payload: &[u8]) -> Walked
-    ensures { λ r. ⌜ r ≡ walked (rowsOf vocoder) (toc (rowsOf vocoder) «max_b» 0 (drop 1 (now (payload .entry)))) ⌝ }
+    ensures { λ r. ⌜ r ≡ walked (rowsOf vocoder) (toc (rowsOf vocoder) «max_b» 0 1 (drop 1 (now (payload .entry)))) ⌝ }
 {
     let max = max_b as usize;
     let mut count: usize = 0;
@@ -219,7 +220,7 @@ pub fn body(form: Form, payload: &[u8], k: usize) -> &[u8]
 
 // The frames of a payload laid out as a packet; none where the payload is refused.
 pub fn lay_out(form: Form, payload: &[u8]) -> Bundle
-    ensures { λ r. ⌜ r ≡ laid (framesRead (readAs (tableOf form) form (now (payload .entry)))) ⌝ }
+    ensures { λ r. ⌜ r ≡ laid holdingShape (framesRead (readAs (tableOf form) form (now (payload .entry)))) ⌝ }
 {
     let none = bundle::not_held();
     let mut marks = none.marks;

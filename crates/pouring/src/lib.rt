@@ -4,21 +4,22 @@ use answers::Written;
 use frame::Vocoder;
 use holding::Holding;
 ghost use mathlib.Core.Path.{_≡_};
-ghost use Prim.Native.Nat.{_+_, _<_, _≤_};
+ghost use Prim.Native.Nat.{_+_, _*_, _<_, _≤_};
 ghost use lib.ListN.{length};
 ghost use Rattle.answers.specs.Outputs.{Writes};
 ghost use Rattle.entries.specs.Entries.{entriesOf};
 ghost use Rattle.frame.specs.FrameTable.{rowsOf};
+ghost use Rattle.frame.specs.Shape.{packetsOf, roomOf, shapeOf, voiceOf};
 ghost use Rattle.octets.specs.Octets.{over};
-ghost use Rattle.holding.specs.Group.{tableOf, holds};
+ghost use Rattle.holding.specs.Group.{voiceIn, holds};
 ghost use Rattle.answers.specs.Outputs.{octets};
 ghost use mathlib.Core.Bool.{true};
 ghost use Rattle.pouring.specs.Pouring.{inTime, row, rows, rowSize, rowsSize, poured};
 
 // The octets of the entries of frame k of the first m packets.
 fn row_size(vocoder: Vocoder, marks: &[u8], m: usize, k: usize) -> usize
-    requires { ⌜ (length (now marks) ≡ 80) × (m ≤ 8) × (k < 10) ⌝ }
-    ensures { λ r. ⌜ (r ≡ rowSize (rowsOf vocoder) (now (marks .entry)) k m) × (r ≤ 184) ⌝ }
+    requires { ⌜ (length (now marks) ≡ 10 * packetsOf (shapeOf vocoder)) × (m ≤ packetsOf (shapeOf vocoder)) × (k < 10) ⌝ }
+    ensures { λ r. ⌜ (r ≡ rowSize (rowsOf vocoder) (now (marks .entry)) k m) × (r ≤ 2048) ⌝ }
 {
     let mut size: usize = 0;
     let mut n: usize = 0;
@@ -32,8 +33,8 @@ fn row_size(vocoder: Vocoder, marks: &[u8], m: usize, k: usize) -> usize
 
 // The octets of the entries of the first b frames of m packets.
 fn pour_size(vocoder: Vocoder, marks: &[u8], m: usize, b: usize) -> usize
-    requires { ⌜ (length (now marks) ≡ 80) × (m ≤ 8) × (b ≤ 10) ⌝ }
-    ensures { λ r. ⌜ (r ≡ rowsSize (rowsOf vocoder) (now (marks .entry)) m b) × (r ≤ 1840) ⌝ }
+    requires { ⌜ (length (now marks) ≡ 10 * packetsOf (shapeOf vocoder)) × (m ≤ packetsOf (shapeOf vocoder)) × (b ≤ 10) ⌝ }
+    ensures { λ r. ⌜ (r ≡ rowsSize (rowsOf vocoder) (now (marks .entry)) m b) × (r ≤ 20480) ⌝ }
 {
     let mut size: usize = 0;
     let mut k: usize = 0;
@@ -54,21 +55,23 @@ fn pour_row(
     out: &mut [u8],
     at: usize,
 ) -> usize
-    requires { ⌜ (length (now marks) ≡ 80)
-        × (length (now room) ≡ 1760)
-        × (m ≤ 8)
+    requires { ⌜ (length (now marks) ≡ 10 * packetsOf (shapeOf vocoder))
+        × (length (now room) ≡ roomOf (shapeOf vocoder) * packetsOf (shapeOf vocoder))
+        × (m ≤ packetsOf (shapeOf vocoder))
         × (k < 10)
         × (at + rowSize (rowsOf vocoder) (now marks) k m ≤ length (now out)) ⌝ }
     ensures { λ r. ⌜ (r ≡ at + rowSize (rowsOf vocoder) (now (marks .entry)) k m)
-        × (now (out .exit) ≡ over (now (out .entry)) at (entriesOf (row (rowsOf vocoder) (now (marks .entry)) (now (room .entry)) k m))) ⌝ }
+        × (now (out .exit) ≡ over (now (out .entry)) at (entriesOf (row (voiceOf vocoder) (now (marks .entry)) (now (room .entry)) k m))) ⌝ }
 {
+    let cell = frame::cell_of(vocoder);
+    let bundle = cell * 10;
     let mut next = at;
     let mut n: usize = 0;
     while n < m {
         let at_mark = 10 * n + k;
         let mark = marks[at_mark];
         let size = frame::body_size(vocoder, mark);
-        let from = 220 * n + 22 * k;
+        let from = bundle * n + cell * k;
         out[next] = mark;
         octets::copy(out, next + 1, &room[from..from + size]);
         next = next + 1 + size;
@@ -79,13 +82,13 @@ fn pour_row(
 
 // Writes the entries of the first b frames of m packets, in time order.
 fn pour_rows(vocoder: Vocoder, marks: &[u8], room: &[u8], m: usize, b: usize, out: &mut [u8])
-    requires { ⌜ (length (now marks) ≡ 80)
-        × (length (now room) ≡ 1760)
-        × (m ≤ 8)
+    requires { ⌜ (length (now marks) ≡ 10 * packetsOf (shapeOf vocoder))
+        × (length (now room) ≡ roomOf (shapeOf vocoder) * packetsOf (shapeOf vocoder))
+        × (m ≤ packetsOf (shapeOf vocoder))
         × (b ≤ 10)
         × (rowsSize (rowsOf vocoder) (now marks) m b ≤ length (now out)) ⌝ }
     ensures { λ _. ⌜ now (out .exit)
-        ≡ over (now (out .entry)) 0 (entriesOf (rows (rowsOf vocoder) (now (marks .entry)) (now (room .entry)) m b)) ⌝ }
+        ≡ over (now (out .entry)) 0 (entriesOf (rows (voiceOf vocoder) (now (marks .entry)) (now (room .entry)) m b)) ⌝ }
 {
     let mut at: usize = 0;
     let mut k: usize = 0;
@@ -97,8 +100,8 @@ fn pour_rows(vocoder: Vocoder, marks: &[u8], room: &[u8], m: usize, b: usize, ou
 
 // Pours a holding that holds a packet. Its frames are EVRC, as yet of each holding.
 fn pour_held(h: Holding, out: &mut [u8]) -> Written
-    requires { ⌜ holds (tableOf h) h ≡ true ⌝ }
-    ensures { λ r. ⌜ Writes (octets (entriesOf (inTime (tableOf h) h))) (now (out .entry)) r (now (out .exit)) ⌝ }
+    requires { ⌜ holds (voiceIn h) h ≡ true ⌝ }
+    ensures { λ r. ⌜ Writes (octets (entriesOf (inTime (voiceIn h) h))) (now (out .entry)) r (now (out .exit)) ⌝ }
 {
     let marks = h.marks;
     let m = h.l as usize + 1;
@@ -114,7 +117,7 @@ fn pour_held(h: Holding, out: &mut [u8]) -> Written
 
 // Pours h into out: all its places in time order as recording entries.
 pub fn pour(h: Holding, out: &mut [u8]) -> Written
-    ensures { λ r. ⌜ Writes (poured (tableOf h) h) (now (out .entry)) r (now (out .exit)) ⌝ }
+    ensures { λ r. ⌜ Writes (poured (voiceIn h) h) (now (out .entry)) r (now (out .exit)) ⌝ }
 {
     let any = holding::holds_packet(h);
     if !any {

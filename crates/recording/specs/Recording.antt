@@ -4,25 +4,28 @@ use mathlib.Core.List.{List, _++_}
 use mathlib.Core.Bool.{Bool, cond}
 use lib.ListN.{length, take, drop}
 use Rattle.octets.specs.Octets.{sameOctets}
+use Rattle.answers.specs.Faults.{faultPlain}
 use Rattle.answers.specs.Outputs.{Made}
 use Rattle.answers.specs.Outputs as outputs
 use Rattle.answers.specs.declared.Refusal.the-variants.{WrongOpening}
 use Rattle.entries.specs.Kind.{Kind}
-use Rattle.entries.specs.Entries.{EntriesRead, frames, refusedEntries, entriesIn, entriesOf}
+use Rattle.entries.specs.Entries.{EntriesRead, frames, refusedEntries, entriesFrom, entriesIn, entriesOf}
 use Rattle.entries.specs.declared.Rule.the-variants.{Any}
 
 -- whether octets begin with the opening
 unfoldable pub opensWith : Kind → List ℕ → Bool
 opensWith kind p = sameOctets (kind .opening) (take (length (kind .opening)) p)
 
--- what a recording is read as: "18 (opening missing or wrong), then entry by entry 5, 19"
+-- what a recording is read as: "18 (opening missing or wrong), then entry by entry 5, 19"; its opening octets are counted in a place
 unfoldable pub recordingRead : Kind → List ℕ → EntriesRead
-recordingRead kind p = cond (opensWith kind p) (entriesIn kind Any (drop (length (kind .opening)) p)) (refusedEntries WrongOpening)
+recordingRead kind p =
+    cond (opensWith kind p) (entriesFrom kind Any (length (kind .opening)) (drop (length (kind .opening)) p))
+    (refusedEntries (faultPlain WrongOpening))
 
 -- the recording of these frames: "puts the opening before them"
 abbrev pub recordingOf : Kind → EntriesRead → Made
 recordingOf kind (frames fs) = outputs.octets (kind .opening ++ entriesOf fs)
-recordingOf kind (refusedEntries r) = outputs.refusedOutput r
+recordingOf kind (refusedEntries f) = outputs.refusedOutput (f .refusal)
 
 -- "The writer takes entries, checks 5, 19 for each, then 15"
 unfoldable pub recordingMade : Kind → List ℕ → Made

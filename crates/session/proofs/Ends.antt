@@ -5,7 +5,8 @@ use mathlib.Core.Path.{_≡_, refl, sym, subst, _∙_}
 use mathlib.Core.List.{List}
 use lib.Dec.{eqb}
 use borrow.Author.Tests.{eqb-true}
-use Rattle.frame.specs.FrameTable.{FrameTable, Frame}
+use Rattle.frame.specs.FrameTable.{Frame}
+use Rattle.frame.specs.Shape.{Shape, Voice}
 use Rattle.answers.specs.declared.Refusal.{Refusal}
 use Rattle.answers.specs.declared.Refusal.the-variants.{AnotherSource, PacketDiffers, NotApplicable}
 use Rattle.payload.specs.Payload.{Reading, packet, refusedPayload, readAs}
@@ -23,45 +24,45 @@ use Rattle.session.specs.declared.Arrival.{Arrival}
 use Rattle.session.specs.declared.Offered.{Offered}
 
 -- ---- a packet that was read, at its place
-pub data Placed (s : Session) (a : Arrival) (o : Offered) : Type 0 where
-  no : (r : Refusal) → o ≡ refuse s r → Placed s a o
-  again : isNothing (s .group) ≡ false → o ≡ accept s 0 → Placed s a o
-  put : isNothing (s .group) ≡ false → a .numbers .l ≡ s .group .l → a .numbers .b ≡ s .group .b
-      → o ≡ accept (withGroup s (withPacket (s .group) (a .n) (a .packet))) 0 → Placed s a o
-  first : isNothing (s .group) ≡ true → s .poured ≡ false → o ≡ begins s a 0 → Placed s a o
-  next : isNothing (s .group) ≡ true → s .poured ≡ true → (lost : ℕ) → lost ≡ gap (lastNumbers s) (a .numbers) * s .«last_b»
-      → lost ≤ 100 * s .«last_b» → o ≡ begins s a lost → Placed s a o
+pub data Placed (u : Shape) (s : Session) (a : Arrival) (o : Offered) : Type 0 where
+  no : (r : Refusal) → o ≡ refuse s r → Placed u s a o
+  again : isNothing u (s .group) ≡ false → o ≡ accept s 0 → Placed u s a o
+  put : isNothing u (s .group) ≡ false → a .numbers .l ≡ s .group .l → a .numbers .b ≡ s .group .b
+      → o ≡ accept (withGroup s (withPacket u (s .group) (a .n) (a .packet))) 0 → Placed u s a o
+  first : isNothing u (s .group) ≡ true → s .poured ≡ false → o ≡ begins u s a 0 → Placed u s a o
+  next : isNothing u (s .group) ≡ true → s .poured ≡ true → (lost : ℕ) → lost ≡ gap (lastNumbers s) (a .numbers) * s .«last_b»
+      → lost ≤ 100 * s .«last_b» → o ≡ begins u s a lost → Placed u s a o
 
-module _ (s : Session) (a : Arrival) where
+module _ (u : Shape) (s : Session) (a : Arrival) where
   -- it belongs to the held group
-  belongs-ends : isNothing (s .group) ≡ false → a .numbers .l ≡ s .group .l → a .numbers .b ≡ s .group .b → Placed s a (belongs s a)
+  belongs-ends : isNothing u (s .group) ≡ false → a .numbers .l ≡ s .group .l → a .numbers .b ≡ s .group .b → Placed u s a (belongs u s a)
   unfolding belongs
-  belongs-ends q l b = go (heldAt (s .group) (a .n)) (sameBundles (bundleAt (s .group) (a .n)) (a .packet))
+  belongs-ends q l b = go (heldAt (s .group) (a .n)) (sameBundles (bundleAt u (s .group) (a .n)) (a .packet))
     where
       go : (x y : Bool)
-          → Placed s a (cond x (cond y (accept s 0) (refuse s PacketDiffers)) (accept (withGroup s (withPacket (s .group) (a .n) (a .packet))) 0))
+          → Placed u s a (cond x (cond y (accept s 0) (refuse s PacketDiffers)) (accept (withGroup s (withPacket u (s .group) (a .n) (a .packet))) 0))
       go true true = again q refl
       go true false = no PacketDiffers refl
       go false y = put q l b refl
 
   -- with a group held, and with one poured before
-  by-held : isNothing (s .group) ≡ false → (w : Verdict) → HeldEnds (numbersOf (s .group)) (a .numbers) w → Placed s a (placedBy s a w)
+  by-held : isNothing u (s .group) ≡ false → (w : Verdict) → HeldEnds (numbersOf (s .group)) (a .numbers) w → Placed u s a (placedBy u s a w)
   unfolding placedBy numbersOf
   by-held q w (numbers.refused r e) = rw e (no r refl)
   by-held q w (numbers.member l b e) = rw e (belongs-ends q l b)
 
-  by-poured : isNothing (s .group) ≡ true → s .poured ≡ true → (w : Verdict) → PouredEnds (lastNumbers s) (a .numbers) w
-      → Placed s a (placedBy s a w)
+  by-poured : isNothing u (s .group) ≡ true → s .poured ≡ true → (w : Verdict) → PouredEnds (lastNumbers s) (a .numbers) w
+      → Placed u s a (placedBy u s a w)
   unfolding placedBy lastNumbers
   by-poured q p w (numbers.refused r e) = rw e (no r refl)
   by-poured q p w (numbers.follows lost f h e) = rw e (next q p lost f h refl)
 
-  placed-ends : Placed s a (placed s a)
+  placed-ends : Placed u s a (placed u s a)
   unfolding placed groupBefore decided placedBy
-  placed-ends = go (isNothing (s .group)) refl (s .poured) refl
+  placed-ends = go (isNothing u (s .group)) refl (s .poured) refl
     where
-      go : (x : Bool) → isNothing (s .group) ≡ x → (y : Bool) → s .poured ≡ y
-          → Placed s a (placedBy s a
+      go : (x : Bool) → isNothing u (s .group) ≡ x → (y : Bool) → s .poured ≡ y
+          → Placed u s a (placedBy u s a
           (decided (cond x (cond y (before.Poured (lastNumbers s)) before.Nothing) (before.Held (numbersOf (s .group)))) (a .numbers)))
       go false q y p = by-held q (withHeld (numbersOf (s .group)) (a .numbers)) (held-ends (numbersOf (s .group)) (a .numbers))
       go true q true p = by-poured q p (afterPoured (lastNumbers s) (a .numbers)) (poured-ends (lastNumbers s) (a .numbers))
@@ -72,34 +73,34 @@ pub data Seen (s : Session) (lost : ℕ) (o : Offered) : Type 0 where
   kept : (r : Refusal) → o ≡ refuse s r → Seen s lost o
   took : (t : Session) → o ≡ accept t lost → Seen s lost o
 
-pub seen : (s : Session) (a : Arrival) (o : Offered) → Placed s a o
-    → Seen s (cond (isNothing (s .group) && s .poured) (gap (lastNumbers s) (a .numbers) * s .«last_b») 0) o
+pub seen : (u : Shape) (s : Session) (a : Arrival) (o : Offered) → Placed u s a o
+    → Seen s (cond (isNothing u (s .group) && s .poured) (gap (lastNumbers s) (a .numbers) * s .«last_b») 0) o
 unfolding begins
-seen s a o (no r e) = kept r e
-seen s a o (again q e) = rw q (took s e)
-seen s a o (put q f g e) = rw q (took _ e)
-seen s a o (first q p e) = rw (q, p) (took _ e)
-seen s a o (next q p lost f h e) =
+seen u s a o (no r e) = kept r e
+seen u s a o (again q e) = rw q (took s e)
+seen u s a o (put q f g e) = rw q (took _ e)
+seen u s a o (first q p e) = rw (q, p) (took _ e)
+seen u s a o (next q p lost f h e) =
     let m = gap (lastNumbers s) (a .numbers) * s .«last_b» in
-    let z : cond (isNothing (s .group) && s .poured) m 0 ≡ m = simp (q, p) in
+    let z : cond (isNothing u (s .group) && s .poured) m 0 ≡ m = simp (q, p) in
     subst (λ (m : ℕ). Seen s m o) (f ∙ sym z) (took _ e)
 
 -- ---- an offer: refused before its place is looked at, or a packet of the session's source that was read, at its place
-pub data Ends (v : FrameTable) (s : Session) (source sequence timestamp : ℕ) (p : List ℕ) (o : Offered) : Type 0 where
+pub data Ends (v : Voice) (s : Session) (source sequence timestamp : ℕ) (p : List ℕ) (o : Offered) : Type 0 where
   refuses : (r : Refusal) → o ≡ refuse s r → Ends v s source sequence timestamp p o
-  places : isOpen v s ≡ true → source ≡ s .source → (l n d : ℕ) (fs : List Frame) → readAs v (s .form) p ≡ packet l n d fs
-      → Placed s (arrival sequence timestamp l n fs) o → Ends v s source sequence timestamp p o
+  places : isOpen v s ≡ true → source ≡ s .source → (l n d : ℕ) (fs : List Frame) → readAs (v .table) (s .form) p ≡ packet l n d fs
+      → Placed (v .shape) s (arrival (v .shape) sequence timestamp l n fs) o → Ends v s source sequence timestamp p o
 
-pub offer-ends : (v : FrameTable) (s : Session) (source sequence timestamp : ℕ) (p : List ℕ)
+pub offer-ends : (v : Voice) (s : Session) (source sequence timestamp : ℕ) (p : List ℕ)
     → Ends v s source sequence timestamp p (offered v s source sequence timestamp p)
 unfolding offered received judged
-offer-ends v s source sequence timestamp p = by-open (isOpen v s) refl (eqb source (s .source)) refl (readAs v (s .form) p) refl
+offer-ends v s source sequence timestamp p = by-open (isOpen v s) refl (eqb source (s .source)) refl (readAs (v .table) (s .form) p) refl
   where
-    by-open : (b : Bool) → isOpen v s ≡ b → (c : Bool) → eqb source (s .source) ≡ c → (w : Reading) → readAs v (s .form) p ≡ w
+    by-open : (b : Bool) → isOpen v s ≡ b → (c : Bool) → eqb source (s .source) ≡ c → (w : Reading) → readAs (v .table) (s .form) p ≡ w
         → Ends v s source sequence timestamp p
-        (cond b (cond c (judged s sequence timestamp w) (refuse s AnotherSource)) (refuse s NotApplicable))
+        (cond b (cond c (judged (v .shape) s sequence timestamp w) (refuse s AnotherSource)) (refuse s NotApplicable))
     by-open false x c y w z = refuses NotApplicable refl
     by-open true x false y w z = refuses AnotherSource refl
-    by-open true x true y (refusedPayload r) z = refuses r refl
+    by-open true x true y (refusedPayload f) z = refuses (f .refusal) refl
     by-open true x true y (packet l n d fs) z =
-        places x (eqb-true source (s .source) y) l n d fs z (placed-ends s (arrival sequence timestamp l n fs))
+        places x (eqb-true source (s .source) y) l n d fs z (placed-ends (v .shape) s (arrival (v .shape) sequence timestamp l n fs))

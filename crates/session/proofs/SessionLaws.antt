@@ -9,6 +9,7 @@ use lib.Dec.{T, eqb, leb}
 use borrow.Author.Tests.{eq-eqb, ne-eqb, le-leb, lt-leb}
 use Rattle.octets.proofs.Logic.{apart}
 use Rattle.frame.specs.FrameTable.{FrameTable, single}
+use Rattle.frame.specs.Shape.{Shape, Voice}
 use Rattle.form.specs.Agreed.{opened}
 use Rattle.form.specs.declared.Limits.{Limits}
 use Rattle.form.specs.declared.Form.{Form}
@@ -58,44 +59,44 @@ pub form-free : true ≡ formRight HeaderFree
 unfolding formRight
 form-free = refl
 
-module _ (s : Session) (source : ℕ) (form : Form) where
-  pub opens : (t : Session) → formRight form ≡ true → t ≡ vacant true source form
-      → _≡_ {A = Started} (record { answer = answer.Done; session = t }) (openedFor s source form)
+module _ (u : Shape) (s : Session) (source : ℕ) (form : Form) where
+  pub opens : (t : Session) → formRight form ≡ true → t ≡ vacant u true source form
+      → _≡_ {A = Started} (record { answer = answer.Done; session = t }) (openedFor u s source form)
   unfolding openedFor fresh
   opens t e f = simp e (ap (λ (x : Session). record { answer = answer.Done; session = x }) f)
 
-  pub not-opened : formRight form ≡ false → _≡_ {A = Started} (record { answer = answer.Refused NotApplicable; session = s }) (openedFor s source form)
+  pub not-opened : formRight form ≡ false → _≡_ {A = Started} (record { answer = answer.Refused NotApplicable; session = s }) (openedFor u s source form)
   unfolding openedFor
   not-opened e = simp e
 
 -- ---- whether a session is open
-module _ (s : Session) where
-  pub last-long : s .poured ≡ true → 7 < s .«last_l» → false ≡ lastRight s
+module _ (u : Shape) (s : Session) where
+  pub last-long : s .poured ≡ true → u .greatest < s .«last_l» → false ≡ lastRight u s
   unfolding lastRight
   last-long p a = simp (p, lt-leb _ _ a)
 
-  pub last-none : s .poured ≡ true → s .«last_l» ≤ 7 → s .«last_b» < 1 → false ≡ lastRight s
+  pub last-none : s .poured ≡ true → s .«last_l» ≤ u .greatest → s .«last_b» < 1 → false ≡ lastRight u s
   unfolding lastRight
   last-none p a b = simp (p, le-leb _ _ a, lt-leb _ _ b)
 
-  pub last-bundle : s .poured ≡ true → s .«last_l» ≤ 7 → 1 ≤ s .«last_b» → leb (s .«last_b») 10 ≡ lastRight s
+  pub last-bundle : s .poured ≡ true → s .«last_l» ≤ u .greatest → 1 ≤ s .«last_b» → leb (s .«last_b») 10 ≡ lastRight u s
   unfolding lastRight
   last-bundle p a b = simp (p, le-leb _ _ a, le-leb _ _ b)
 
-  pub none-poured : s .poured ≡ false → true ≡ lastRight s
+  pub none-poured : s .poured ≡ false → true ≡ lastRight u s
   unfolding lastRight
   none-poured p = simp p
 
-module _ (v : FrameTable) (s : Session) where
-  pub group-vacant : isNothing (s .group) ≡ true → true ≡ groupRight v s
+module _ (v : Voice) (s : Session) where
+  pub group-vacant : isNothing (v .shape) (s .group) ≡ true → true ≡ groupRight v s
   unfolding groupRight
   group-vacant e = simp e
 
-  pub group-broken : isNothing (s .group) ≡ false → holds v (s .group) ≡ false → false ≡ groupRight v s
+  pub group-broken : isNothing (v .shape) (s .group) ≡ false → holds v (s .group) ≡ false → false ≡ groupRight v s
   unfolding groupRight
   group-broken e f = simp (e, f)
 
-  pub group-source : isNothing (s .group) ≡ false → holds v (s .group) ≡ true → eqb (s .group .source) (s .source) ≡ groupRight v s
+  pub group-source : isNothing (v .shape) (s .group) ≡ false → holds v (s .group) ≡ true → eqb (s .group .source) (s .source) ≡ groupRight v s
   unfolding groupRight
   group-source e f = simp (e, f)
 
@@ -108,80 +109,80 @@ module _ (v : FrameTable) (s : Session) where
     unfolding isOpen
     form-wrong e = simp (o, e)
 
-    pub last-wrong : formRight (s .form) ≡ true → lastRight s ≡ false → false ≡ isOpen v s
+    pub last-wrong : formRight (s .form) ≡ true → lastRight (v .shape) s ≡ false → false ≡ isOpen v s
     unfolding isOpen
     last-wrong e f = simp (o, e, f)
 
-    pub by-group : formRight (s .form) ≡ true → lastRight s ≡ true → groupRight v s ≡ isOpen v s
+    pub by-group : formRight (s .form) ≡ true → lastRight (v .shape) s ≡ true → groupRight v s ≡ isOpen v s
     unfolding isOpen
     by-group e f = simp (o, e, f)
 
 -- ---- the group before
-module _ (s : Session) where
-  pub one-held : (g : GroupNumbers) → isNothing (s .group) ≡ false → g ≡ numbersOf (s .group)
-      → before.Held g ≡ groupBefore s
+module _ (u : Shape) (s : Session) where
+  pub one-held : (g : GroupNumbers) → isNothing u (s .group) ≡ false → g ≡ numbersOf (s .group)
+      → before.Held g ≡ groupBefore u s
   unfolding groupBefore
   one-held g e q = simp e (ap before.Held q)
 
-  pub one-poured : (g : GroupNumbers) → isNothing (s .group) ≡ true → s .poured ≡ true → g ≡ lastNumbers s
-      → before.Poured g ≡ groupBefore s
+  pub one-poured : (g : GroupNumbers) → isNothing u (s .group) ≡ true → s .poured ≡ true → g ≡ lastNumbers s
+      → before.Poured g ≡ groupBefore u s
   unfolding groupBefore
   one-poured g e p q = simp (e, p) (ap before.Poured q)
 
-  pub none-before : isNothing (s .group) ≡ true → s .poured ≡ false → before.Nothing ≡ groupBefore s
+  pub none-before : isNothing u (s .group) ≡ true → s .poured ≡ false → before.Nothing ≡ groupBefore u s
   unfolding groupBefore
   none-before e p = simp (e, p)
 
 -- ---- a packet of the held group
-module _ (s : Session) (a : Arrival) where
+module _ (u : Shape) (s : Session) (a : Arrival) where
   pub put-in : heldAt (s .group) (a .n) ≡ false
-      → accept (withGroup s (withPacket (s .group) (a .n) (a .packet))) 0 ≡ belongs s a
+      → accept (withGroup s (withPacket u (s .group) (a .n) (a .packet))) 0 ≡ belongs u s a
   unfolding belongs
   put-in e = simp e
 
   module _ (e : heldAt (s .group) (a .n) ≡ true) where
-    pub again : sameBundles (bundleAt (s .group) (a .n)) (a .packet) ≡ true → accept s 0 ≡ belongs s a
+    pub again : sameBundles (bundleAt u (s .group) (a .n)) (a .packet) ≡ true → accept s 0 ≡ belongs u s a
     unfolding belongs
     again f = simp (e, f)
 
-    pub differs : sameBundles (bundleAt (s .group) (a .n)) (a .packet) ≡ false → refuse s PacketDiffers ≡ belongs s a
+    pub differs : sameBundles (bundleAt u (s .group) (a .n)) (a .packet) ≡ false → refuse s PacketDiffers ≡ belongs u s a
     unfolding belongs
     differs f = simp (e, f)
 
 -- ---- the verdict on its numbers
-module _ (s : Session) (a : Arrival) (g : Before) (w : Verdict) (e : g ≡ groupBefore s) (f : w ≡ decided g (a .numbers)) where
-  by-verdict : (x : Verdict) → w ≡ x → placedBy s a x ≡ placed s a
+module _ (u : Shape) (s : Session) (a : Arrival) (g : Before) (w : Verdict) (e : g ≡ groupBefore u s) (f : w ≡ decided g (a .numbers)) where
+  by-verdict : (x : Verdict) → w ≡ x → placedBy u s a x ≡ placed u s a
   unfolding placed
-  by-verdict x q = ap (placedBy s a) (sym q ∙ f ∙ ap (λ (h : Before). decided h (a .numbers)) e)
+  by-verdict x q = ap (placedBy u s a) (sym q ∙ f ∙ ap (λ (h : Before). decided h (a .numbers)) e)
 
-  pub it-begins : (lost : ℕ) → w ≡ verdict.Begins lost → begins s a lost ≡ placed s a
+  pub it-begins : (lost : ℕ) → w ≡ verdict.Begins lost → begins u s a lost ≡ placed u s a
   unfolding placedBy
   it-begins lost q = by-verdict (verdict.Begins lost) q
 
-  pub it-belongs : w ≡ verdict.Belongs → belongs s a ≡ placed s a
+  pub it-belongs : w ≡ verdict.Belongs → belongs u s a ≡ placed u s a
   unfolding placedBy
   it-belongs q = by-verdict verdict.Belongs q
 
-  pub is-refused : (r : Refusal) → w ≡ verdict.Refused r → refuse s r ≡ placed s a
+  pub is-refused : (r : Refusal) → w ≡ verdict.Refused r → refuse s r ≡ placed u s a
   unfolding placedBy
   is-refused r q = by-verdict (verdict.Refused r) q
 
 -- ---- copying out
-module _ (v : FrameTable) (s : Session) where
-  pub copy-closed : isOpen v s ≡ false → noCopy ≡ copied v s
+module _ (v : Voice) (s : Session) where
+  pub copy-closed : isOpen v s ≡ false → noCopy (v .shape) ≡ copied v s
   unfolding copied
   copy-closed e = simp e
 
-  pub copy-vacant : isOpen v s ≡ true → isNothing (s .group) ≡ true → noCopy ≡ copied v s
+  pub copy-vacant : isOpen v s ≡ true → isNothing (v .shape) (s .group) ≡ true → noCopy (v .shape) ≡ copied v s
   unfolding copied
   copy-vacant e f = simp (e, f)
 
-  pub copy-group : isOpen v s ≡ true → isNothing (s .group) ≡ false → _≡_ {A = Copied} (record { answer = answer.Done; holding = s .group }) (copied v s)
+  pub copy-group : isOpen v s ≡ true → isNothing (v .shape) (s .group) ≡ false → _≡_ {A = Copied} (record { answer = answer.Done; holding = s .group }) (copied v s)
   unfolding copied
   copy-group e f = simp (e, f)
 
 -- ---- pouring
-module _ (v : FrameTable) (s : Session) where
+module _ (v : Voice) (s : Session) where
   pub pour-closed : isOpen v s ≡ false → pourMade v s ≡ outputs.refusedOutput NotApplicable
   unfolding pourMade
   pour-closed e = simp e
@@ -191,29 +192,29 @@ module _ (v : FrameTable) (s : Session) where
   pour-open e = simp e
 
 -- ---- offering
-judge-refused : (s : Session) (sequence timestamp : ℕ) (w : Reading) (r : Refusal) → contents.Refused r ≡ contentsOf w → refuse s r ≡ judged s sequence timestamp w
+judge-refused : (u : Shape) (s : Session) (sequence timestamp : ℕ) (w : Reading) (r : Refusal) → contents.Refused r ≡ contentsOf w → refuse s r ≡ judged u s sequence timestamp w
 unfolding judged contentsOf
-judge-refused s q t (refusedPayload x) r e = let z : r ≡ x = cc in ap (refuse s) z
-judge-refused s q t (packet l n d fs) r e = apart (cc)
+judge-refused u s q t (refusedPayload x) r e = let z : r ≡ x .refusal = cc in ap (refuse s) z
+judge-refused u s q t (packet l n d fs) r e = apart (cc)
 
 -- what was read of a packet, as it arrived
-pub record Came (sequence timestamp : ℕ) (w : Reading) (a : Arrival) : Type 0 where
+pub record Came (u : Shape) (sequence timestamp : ℕ) (w : Reading) (a : Arrival) : Type 0 where
   pub d : ℕ
   pub told : contents.Packet (a .numbers .l) (a .n) (a .numbers .b) d ≡ contentsOf w
   pub base : a .numbers .sequence ≡ baseSequence sequence (a .n)
   pub time : a .numbers .timestamp ≡ baseTimestamp timestamp (a .n)
-  pub frames : a .packet ≡ laid (framesRead w)
+  pub frames : a .packet ≡ laid u (framesRead w)
 
-judge-placed : (s : Session) (sequence timestamp : ℕ) (w : Reading) (a : Arrival) → Came sequence timestamp w a
-    → placed s a ≡ judged s sequence timestamp w
+judge-placed : (u : Shape) (s : Session) (sequence timestamp : ℕ) (w : Reading) (a : Arrival) → Came u sequence timestamp w a
+    → placed u s a ≡ judged u s sequence timestamp w
 unfolding judged contentsOf framesRead arrival
-judge-placed s q t (refusedPayload x) a c = let e = c .told in apart (cc)
-judge-placed s q t (packet l n d fs) a c =
+judge-placed u s q t (refusedPayload x) a c = let e = c .told in apart (cc)
+judge-placed u s q t (packet l n d fs) a c =
     let e = c .told in
     let zl : a .numbers .l ≡ l = cc in
     let zn : a .n ≡ n = cc in
     let zb : a .numbers .b ≡ length fs = cc in
-    ap (placed s)
+    ap (placed u s)
     (same-arrival (c .base ∙ ap (baseSequence q) zn) (c .time ∙ ap (baseTimestamp t) zn) zl zb zn (c .frames))
   where
     same-arrival : {s s′ t t′ l l′ b b′ n n′ : ℕ} {p p′ : Bundle} → s ≡ s′ → t ≡ t′ → l ≡ l′ → b ≡ b′ → n ≡ n′ → p ≡ p′
@@ -233,7 +234,7 @@ index-small v z f p l n b d e = go (readAs v f p) refl e
         let zn : n ≡ n′ = cc in
         omega (arith, i .index-in, i .length-small)
 
-module _ (v : FrameTable) (s : Session) (source sequence timestamp : ℕ) (p : List ℕ) where
+module _ (v : Voice) (s : Session) (source sequence timestamp : ℕ) (p : List ℕ) where
   pub offer-closed : isOpen v s ≡ false → refuse s NotApplicable ≡ offered v s source sequence timestamp p
   unfolding offered
   offer-closed e = simp e
@@ -247,17 +248,17 @@ module _ (v : FrameTable) (s : Session) (source sequence timestamp : ℕ) (p : L
   other-source n = simp (ne-eqb _ _ n)
 
   module _ (q : source ≡ s .source) where
-    by-reading : judged s sequence timestamp (readAs v (s .form) p) ≡ received v s source sequence timestamp p
+    by-reading : judged (v .shape) s sequence timestamp (readAs (v .table) (s .form) p) ≡ received v s source sequence timestamp p
     unfolding received
     by-reading = simp (eq-eqb _ _ q)
 
-    pub not-read : (r : Refusal) → contents.Refused r ≡ contentsOf (readAs v (s .form) p)
+    pub not-read : (r : Refusal) → contents.Refused r ≡ contentsOf (readAs (v .table) (s .form) p)
         → refuse s r ≡ received v s source sequence timestamp p
-    not-read r e = judge-refused s sequence timestamp (readAs v (s .form) p) r e ∙ by-reading
+    not-read r e = judge-refused (v .shape) s sequence timestamp (readAs (v .table) (s .form) p) r e ∙ by-reading
 
-    pub was-read : (a : Arrival) → Came sequence timestamp (readAs v (s .form) p) a
-        → placed s a ≡ received v s source sequence timestamp p
-    was-read a c = judge-placed s sequence timestamp (readAs v (s .form) p) a c ∙ by-reading
+    pub was-read : (a : Arrival) → Came (v .shape) sequence timestamp (readAs (v .table) (s .form) p) a
+        → placed (v .shape) s a ≡ received v s source sequence timestamp p
+    was-read a c = judge-placed (v .shape) s sequence timestamp (readAs (v .table) (s .form) p) a c ∙ by-reading
 
 -- what another call made and answered is handed on
 pub handed-on : (m m′ : Made) (before : List ℕ) (r r′ : Written) (after : List ℕ) → m ≡ m′ → r ≡ r′ → Writes m′ before r after → Writes m before r′ after

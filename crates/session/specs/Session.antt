@@ -1,10 +1,11 @@
--- Document 01, "Session", over any frame table.
+-- Document 01, "Session", over any shape and frame table.
 use Prim.Native.Nat.{ℕ}
 use mathlib.Core.Bool.{Bool, true, false, cond, _&&_}
 use mathlib.Core.List.{List}
 use lib.ListN.{length}
 use lib.Dec.{eqb, leb}
-use Rattle.frame.specs.FrameTable.{FrameTable, Frame}
+use Rattle.frame.specs.FrameTable.{Frame}
+use Rattle.frame.specs.Shape.{Shape, Voice}
 use Rattle.form.specs.Agreed.{inRange}
 use Rattle.answers.specs.Outputs.{Made}
 use Rattle.answers.specs.Outputs as outputs
@@ -38,13 +39,13 @@ use Rattle.session.specs.declared.Copied.{Copied}
 -- ---- open, and not open
 
 -- a session that holds no group and remembers none
-unfoldable pub vacant : Bool → ℕ → Form → Session
-vacant isOpen source form =
+unfoldable pub vacant : Shape → Bool → ℕ → Form → Session
+vacant shape isOpen source form =
     record {
       «open» = isOpen;
       source = source;
       form = form;
-      group = nothing;
+      group = nothing shape;
       poured = false;
       «last_sequence» = 0;
       «last_l» = 0;
@@ -52,12 +53,12 @@ vacant isOpen source form =
     }
 
 -- a session never opened; "Ending a session clears all of it, a held group and the memory of the last one"
-unfoldable pub neverOpened : Session
-neverOpened = vacant false 0 HeaderFree
+unfoldable pub neverOpened : Shape → Session
+neverOpened shape = vacant shape false 0 HeaderFree
 
 -- "Opening names the source and the agreed form .. and otherwise gives a fresh session."
-unfoldable pub fresh : ℕ → Form → Session
-fresh source form = vacant true source form
+unfoldable pub fresh : Shape → ℕ → Form → Session
+fresh shape source form = vacant shape true source form
 
 -- its maxima are in range; a header-free form has none
 unfoldable pub formRight : Form → Bool
@@ -65,22 +66,22 @@ formRight HeaderFree = true
 formRight (Interleaved m) = inRange m
 
 -- "21 if a maximum is out of range"
-unfoldable pub openedFor : Session → ℕ → Form → Started
-openedFor s source form =
-    cond (formRight form) (record { answer = answer.Done; session = fresh source form })
+unfoldable pub openedFor : Shape → Session → ℕ → Form → Started
+openedFor shape s source form =
+    cond (formRight form) (record { answer = answer.Done; session = fresh shape source form })
     (record { answer = answer.Refused NotApplicable; session = s })
 
 -- "the L or B of its last poured group is out of these ranges", if there is one
-unfoldable pub lastRight : Session → Bool
-lastRight s = cond (s .poured) (leb (s .«last_l») 7 && (leb 1 (s .«last_b») && leb (s .«last_b») 10)) true
+unfoldable pub lastRight : Shape → Session → Bool
+lastRight shape s = cond (s .poured) (leb (s .«last_l») (shape .greatest) && (leb 1 (s .«last_b») && leb (s .«last_b») 10)) true
 
 -- "its held group breaks this or names another source"; it holds none if its group is that of nothing
-unfoldable pub groupRight : FrameTable → Session → Bool
-groupRight v s = cond (isNothing (s .group)) true (holds v (s .group) && eqb (s .group .source) (s .source))
+unfoldable pub groupRight : Voice → Session → Bool
+groupRight v s = cond (isNothing (v .shape) (s .group)) true (holds v (s .group) && eqb (s .group .source) (s .source))
 
 -- "A session counts as not open if .."
-unfoldable pub isOpen : FrameTable → Session → Bool
-isOpen v s = s .«open» && (formRight (s .form) && (lastRight s && groupRight v s))
+unfoldable pub isOpen : Voice → Session → Bool
+isOpen v s = s .«open» && (formRight (s .form) && (lastRight (v .shape) s && groupRight v s))
 
 -- ---- offering
 
@@ -112,37 +113,36 @@ lastNumbers s =
     record { sequence = s .«last_sequence»; timestamp = 0; l = s .«last_l»; b = s .«last_b» }
 
 -- "with a group held", "With no group held but one poured before", "With none before"
-unfoldable pub groupBefore : Session → Before
-groupBefore s =
-    cond (isNothing (s .group)) (cond (s .poured) (before.Poured (lastNumbers s)) before.Nothing)
+unfoldable pub groupBefore : Shape → Session → Before
+groupBefore shape s =
+    cond (isNothing shape (s .group)) (cond (s .poured) (before.Poured (lastNumbers s)) before.Nothing)
     (before.Held (numbersOf (s .group)))
 
 -- "the packet begins a group and the answer reports .. lost frames before it"
-unfoldable pub begins : Session → Arrival → ℕ → Offered
-begins s a lost =
-    let g = a .numbers in
-    accept (withGroup s (withPacket (begun (s .source) (g .sequence) (g .timestamp) (g .l) (g .b)) (a .n) (a .packet))) lost
+unfoldable pub begins : Shape → Session → Arrival → ℕ → Offered
+begins shape s a lost =
+    accept (withGroup s (withPacket shape (begun shape (s .source) (a .numbers)) (a .n) (a .packet))) lost
 
 -- "If the packet is already held: same types and bodies, accepted and nothing changes; otherwise 14. If not held, it is put in."
-unfoldable pub belongs : Session → Arrival → Offered
-belongs s a =
+unfoldable pub belongs : Shape → Session → Arrival → Offered
+belongs shape s a =
     cond (heldAt (s .group) (a .n))
-    (cond (sameBundles (bundleAt (s .group) (a .n)) (a .packet)) (accept s 0) (refuse s PacketDiffers))
-    (accept (withGroup s (withPacket (s .group) (a .n) (a .packet))) 0)
+    (cond (sameBundles (bundleAt shape (s .group) (a .n)) (a .packet)) (accept s 0) (refuse s PacketDiffers))
+    (accept (withGroup s (withPacket shape (s .group) (a .n) (a .packet))) 0)
 
 -- what the verdict on a packet's numbers means for its frames
-unfoldable pub placedBy : Session → Arrival → Verdict → Offered
-placedBy s a (verdict.Begins lost) = begins s a lost
-placedBy s a verdict.Belongs = belongs s a
-placedBy s a (verdict.Refused r) = refuse s r
+unfoldable pub placedBy : Shape → Session → Arrival → Verdict → Offered
+placedBy shape s a (verdict.Begins lost) = begins shape s a lost
+placedBy shape s a verdict.Belongs = belongs shape s a
+placedBy shape s a (verdict.Refused r) = refuse s r
 
 -- the place of a packet that was read
-unfoldable pub placed : Session → Arrival → Offered
-placed s a = placedBy s a (decided (groupBefore s) (a .numbers))
+unfoldable pub placed : Shape → Session → Arrival → Offered
+placed shape s a = placedBy shape s a (decided (groupBefore shape s) (a .numbers))
 
 -- a packet that was read, with the numbers of its group
-unfoldable pub arrival : ℕ → ℕ → ℕ → ℕ → List Frame → Arrival
-arrival sequence timestamp l n fs =
+unfoldable pub arrival : Shape → ℕ → ℕ → ℕ → ℕ → List Frame → Arrival
+arrival shape sequence timestamp l n fs =
     record {
       numbers =
           record {
@@ -152,38 +152,38 @@ arrival sequence timestamp l n fs =
             b = length fs;
           };
       n = n;
-      packet = laid fs;
+      packet = laid shape fs;
     }
 
 -- "payload (1 to 9), place"
-unfoldable pub judged : Session → ℕ → ℕ → Reading → Offered
-judged s sequence timestamp (refusedPayload r) = refuse s r
-judged s sequence timestamp (packet l n d fs) = placed s (arrival sequence timestamp l n fs)
+unfoldable pub judged : Shape → Session → ℕ → ℕ → Reading → Offered
+judged shape s sequence timestamp (refusedPayload f) = refuse s (f .refusal)
+judged shape s sequence timestamp (packet l n d fs) = placed shape s (arrival shape sequence timestamp l n fs)
 
 -- what an open session makes of a packet: "source (10), payload (1 to 9), place"
-unfoldable pub received : FrameTable → Session → ℕ → ℕ → ℕ → List ℕ → Offered
+unfoldable pub received : Voice → Session → ℕ → ℕ → ℕ → List ℕ → Offered
 received v s source sequence timestamp p =
-    cond (eqb source (s .source)) (judged s sequence timestamp (readAs v (s .form) p)) (refuse s AnotherSource)
+    cond (eqb source (s .source)) (judged (v .shape) s sequence timestamp (readAs (v .table) (s .form) p)) (refuse s AnotherSource)
 
 -- "Offering a packet checks in this order: open session (21), source (10), payload (1 to 9), place."
-unfoldable pub offered : FrameTable → Session → ℕ → ℕ → ℕ → List ℕ → Offered
+unfoldable pub offered : Voice → Session → ℕ → ℕ → ℕ → List ℕ → Offered
 offered v s source sequence timestamp p =
     cond (isOpen v s) (received v s source sequence timestamp p) (refuse s NotApplicable)
 
 -- ---- pouring, copying out, ending
 
 -- "Checks: session open and group held (21), room (15)."
-unfoldable pub pourMade : FrameTable → Session → Made
+unfoldable pub pourMade : Voice → Session → Made
 pourMade v s = cond (isOpen v s) (poured v (s .group)) (outputs.refusedOutput NotApplicable)
 
 -- pouring "ends the group", and its numbers are remembered
-unfoldable pub ended : Session → Session
-ended s =
+unfoldable pub ended : Shape → Session → Session
+ended shape s =
     record {
       «open» = s .«open»;
       source = s .source;
       form = s .form;
-      group = nothing;
+      group = nothing shape;
       poured = true;
       «last_sequence» = s .group .sequence;
       «last_l» = s .group .l;
@@ -191,15 +191,16 @@ ended s =
     }
 
 -- "and ends the group"; a refused pouring leaves the session as it was
-unfoldable pub afterPour : Session → Written → Session
-afterPour s (written.Octets n) = ended s
-afterPour s (written.Refused r) = s
+unfoldable pub afterPour : Shape → Session → Written → Session
+afterPour shape s (written.Octets n) = ended shape s
+afterPour shape s (written.Refused r) = s
 
 -- 21, and a holding of nothing
-unfoldable pub noCopy : Copied
-noCopy = record { answer = answer.Refused NotApplicable; holding = nothing }
+unfoldable pub noCopy : Shape → Copied
+noCopy shape = record { answer = answer.Refused NotApplicable; holding = nothing shape }
 
 -- "A session's holding can be copied out (21 likewise)"
-unfoldable pub copied : FrameTable → Session → Copied
+unfoldable pub copied : Voice → Session → Copied
 copied v s =
-    cond (isOpen v s) (cond (isNothing (s .group)) noCopy (record { answer = answer.Done; holding = s .group })) noCopy
+    cond (isOpen v s) (cond (isNothing (v .shape) (s .group)) (noCopy (v .shape)) (record { answer = answer.Done; holding = s .group }))
+    (noCopy (v .shape))

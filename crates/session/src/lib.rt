@@ -14,7 +14,8 @@ use payload::Contents;
 ghost use mathlib.Core.Path.{_≡_};
 ghost use Prim.Native.Nat.{_<_};
 ghost use Rattle.answers.specs.Outputs.{Writes};
-ghost use Rattle.form.specs.Agreed.{tableOf};
+ghost use Rattle.form.specs.Agreed.{voiceFor};
+ghost use Rattle.frame.specs.Shape.{holdingShape};
 ghost use Rattle.session.specs.Session.{vacant, neverOpened, formRight, openedFor, lastRight, groupRight, isOpen, refuse};
 ghost use Rattle.session.specs.Session.{accept, withGroup, lastNumbers, groupBefore, begins, belongs, placed, received};
 ghost use Rattle.session.specs.Session.{offered, pourMade, ended, afterPour, noCopy, copied};
@@ -68,7 +69,7 @@ pub struct Copied {
 
 // A session that holds no group and remembers none.
 fn vacant(open: bool, source: u32, form: Form) -> Session
-    ensures { λ r. ⌜ r ≡ vacant «open» source form ⌝ }
+    ensures { λ r. ⌜ r ≡ vacant holdingShape «open» source form ⌝ }
 {
     let group = holding::nothing();
     Session {
@@ -85,7 +86,7 @@ fn vacant(open: bool, source: u32, form: Form) -> Session
 
 // A session never opened.
 pub fn never_opened() -> Session
-    ensures { λ r. ⌜ r ≡ neverOpened ⌝ }
+    ensures { λ r. ⌜ r ≡ neverOpened holdingShape ⌝ }
 {
     vacant(false, 0, Form::HeaderFree)
 }
@@ -108,7 +109,7 @@ fn is_form_right(form: Form) -> bool
 
 // Opens a session for a source, in the agreed form: fresh, whatever it was before; 21 if a maximum is out of range.
 pub fn open(session: Session, source: u32, form: Form) -> Started
-    ensures { λ r. ⌜ r ≡ openedFor session source form ⌝ }
+    ensures { λ r. ⌜ r ≡ openedFor holdingShape session source form ⌝ }
 {
     let right = is_form_right(form);
     if right {
@@ -127,7 +128,7 @@ pub fn open(session: Session, source: u32, form: Form) -> Started
 
 // Whether L and B of the last poured group are in range, if there is one.
 fn is_last_right(session: Session) -> bool
-    ensures { λ r. ⌜ r ≡ lastRight session ⌝ }
+    ensures { λ r. ⌜ r ≡ lastRight holdingShape session ⌝ }
 {
     if session.poured {
         if 7 < session.last_l {
@@ -143,7 +144,7 @@ fn is_last_right(session: Session) -> bool
 
 // Whether the held group keeps the rule of a holding, holds a packet and names the session's source, if there is one.
 fn is_group_right(session: Session) -> bool
-    ensures { λ r. ⌜ r ≡ groupRight (tableOf (session .form)) session ⌝ }
+    ensures { λ r. ⌜ r ≡ groupRight (voiceFor (session .form)) session ⌝ }
 {
     let group = session.group;
     let vacant = holding::is_nothing(group);
@@ -159,7 +160,7 @@ fn is_group_right(session: Session) -> bool
 
 // Whether a session counts as open.
 pub fn is_open(session: Session) -> bool
-    ensures { λ r. ⌜ r ≡ isOpen (tableOf (session .form)) session ⌝ }
+    ensures { λ r. ⌜ r ≡ isOpen (voiceFor (session .form)) session ⌝ }
 {
     if session.open {
         let form = session.form;
@@ -217,7 +218,7 @@ fn last_numbers(session: Session) -> GroupNumbers
 
 // The group that a packet comes after: the one that is held, the last one poured, or none.
 fn group_before(session: Session) -> Before
-    ensures { λ r. ⌜ r ≡ groupBefore session ⌝ }
+    ensures { λ r. ⌜ r ≡ groupBefore holdingShape session ⌝ }
 {
     let group = session.group;
     let vacant = holding::is_nothing(group);
@@ -233,16 +234,10 @@ fn group_before(session: Session) -> Before
 // A packet that begins a group.
 fn begin_group(session: Session, arrival: Arrival, lost: usize) -> Offered
     requires { ⌜ arrival .n < 8 ⌝ }
-    ensures { λ r. ⌜ r ≡ begins session arrival lost ⌝ }
+    ensures { λ r. ⌜ r ≡ begins holdingShape session arrival lost ⌝ }
 {
     let numbers = arrival.numbers;
-    let none = holding::begin(
-        session.source,
-        numbers.sequence,
-        numbers.timestamp,
-        numbers.l,
-        numbers.b,
-    );
+    let none = holding::begin(session.source, numbers);
     let n = arrival.n as usize;
     let group = holding::with_packet(none, n, arrival.packet);
     accepted(with_group(session, group), lost)
@@ -251,7 +246,7 @@ fn begin_group(session: Session, arrival: Arrival, lost: usize) -> Offered
 // A packet that belongs to the held group: put in, the same again, or another than the one that is held.
 fn belongs(session: Session, arrival: Arrival) -> Offered
     requires { ⌜ arrival .n < 8 ⌝ }
-    ensures { λ r. ⌜ r ≡ belongs session arrival ⌝ }
+    ensures { λ r. ⌜ r ≡ belongs holdingShape session arrival ⌝ }
 {
     let group = session.group;
     let n = arrival.n as usize;
@@ -270,7 +265,7 @@ fn belongs(session: Session, arrival: Arrival) -> Offered
 // The place of a packet that was read: its numbers decide.
 fn place(session: Session, arrival: Arrival) -> Offered
     requires { ⌜ arrival .n < 8 ⌝ }
-    ensures { λ r. ⌜ r ≡ placed session arrival ⌝ }
+    ensures { λ r. ⌜ r ≡ placed holdingShape session arrival ⌝ }
 {
     let numbers = arrival.numbers;
     let before = group_before(session);
@@ -284,7 +279,7 @@ fn place(session: Session, arrival: Arrival) -> Offered
 
 // What an open session makes of a packet.
 fn receive(session: Session, source: u32, sequence: u16, timestamp: u32, payload: &[u8]) -> Offered
-    ensures { λ r. ⌜ r ≡ received (tableOf (session .form)) session source sequence timestamp (now (payload .entry)) ⌝ }
+    ensures { λ r. ⌜ r ≡ received (voiceFor (session .form)) session source sequence timestamp (now (payload .entry)) ⌝ }
 {
     if source != session.source {
         return refused(session, Refusal::AnotherSource);
@@ -315,7 +310,7 @@ pub fn offer(
     timestamp: u32,
     payload: &[u8],
 ) -> Offered
-    ensures { λ r. ⌜ r ≡ offered (tableOf (session .form)) session source sequence timestamp (now (payload .entry)) ⌝ }
+    ensures { λ r. ⌜ r ≡ offered (voiceFor (session .form)) session source sequence timestamp (now (payload .entry)) ⌝ }
 {
     let ready = is_open(session);
     if !ready {
@@ -326,7 +321,7 @@ pub fn offer(
 
 // The session after its group was poured.
 fn ended(session: Session) -> Session
-    ensures { λ r. ⌜ r ≡ ended session ⌝ }
+    ensures { λ r. ⌜ r ≡ ended holdingShape session ⌝ }
 {
     let group = session.group;
     let form = session.form;
@@ -345,8 +340,8 @@ fn ended(session: Session) -> Session
 
 // Pours the held group into out and ends it; or refused, and session and output are as they were.
 pub fn pour(session: Session, out: &mut [u8]) -> Poured
-    ensures { λ r. ⌜ Writes (pourMade (tableOf (session .form)) session) (now (out .entry)) (r .answer) (now (out .exit))
-        × (r .session ≡ afterPour session (r .answer)) ⌝ }
+    ensures { λ r. ⌜ Writes (pourMade (voiceFor (session .form)) session) (now (out .entry)) (r .answer) (now (out .exit))
+        × (r .session ≡ afterPour holdingShape session (r .answer)) ⌝ }
 {
     let ready = is_open(session);
     if !ready {
@@ -374,7 +369,7 @@ pub fn pour(session: Session, out: &mut [u8]) -> Poured
 
 // A refused copy: it carries a holding of nothing.
 fn no_copy() -> Copied
-    ensures { λ r. ⌜ r ≡ noCopy ⌝ }
+    ensures { λ r. ⌜ r ≡ noCopy holdingShape ⌝ }
 {
     let none = holding::nothing();
     Copied {
@@ -385,7 +380,7 @@ fn no_copy() -> Copied
 
 // The held group, copied out; 21 where the session is not open or holds none.
 pub fn copy_out(session: Session) -> Copied
-    ensures { λ r. ⌜ r ≡ copied (tableOf (session .form)) session ⌝ }
+    ensures { λ r. ⌜ r ≡ copied (voiceFor (session .form)) session ⌝ }
 {
     let ready = is_open(session);
     if !ready {
@@ -404,7 +399,7 @@ pub fn copy_out(session: Session) -> Copied
 
 // Ends a session: nothing of it is left. Never refused.
 pub fn end(_session: Session) -> Session
-    ensures { λ r. ⌜ r ≡ neverOpened ⌝ }
+    ensures { λ r. ⌜ r ≡ neverOpened holdingShape ⌝ }
 {
     never_opened()
 }

@@ -3,7 +3,7 @@ use Prim.Native.Nat.{_-_, _≤_}
 use mathlib.Core.Path.{_≡_, refl, sym, _∙_}
 use mathlib.Core.Bool.{true}
 use native.Mathlib.Omega.{arith}
-use Rattle.frame.specs.FrameTable.{rowsOf}
+use Rattle.frame.specs.Shape.{voiceOf}
 use Rattle.octets.specs.Octets.{allBelow}
 use Rattle.octets.proofs.Below.{all-more, all-fails, all-done}
 use Rattle.bundle.specs.Bundles.{bundleIn, frameRight, framesRight}
@@ -11,7 +11,7 @@ use Rattle.bundle.proofs.frames_right.Statement.{statement}
 use Rattle.bundle.proofs.frames_right.Tie as tie
 
 abbrev Inv-loop : tie.InvT-loop
-Inv-loop vocoder b marks room k₀ k = (k ≤ 10) × (allBelow (frameRight (rowsOf vocoder) b (bundleIn marks room)) k ≡ true)
+Inv-loop vocoder b marks room k₀ k = (k ≤ 10) × (allBelow (frameRight (voiceOf vocoder) b (bundleIn marks room)) k ≡ true)
 
 abbrev μ-loop : tie.MeasureT-loop
 μ-loop vocoder b marks room k₀ k = 10 - k

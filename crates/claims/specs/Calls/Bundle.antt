@@ -32,6 +32,20 @@ sameBundles = record {
   left = λ κs s. tt;
 }
 
+-- is_not_held(vocoder: Vocoder, marks: &[u8], room: &[u8]) -> bool
+abbrev pub isNotHeld : Call
+isNotHeld = record {
+  lifetimes = 2;
+  parameters = contracts.is_not_held.Kinds.ps;
+  result = contracts.is_not_held.Kinds.r;
+  allows = contracts.is_not_held.Reads.Post;
+  Answer = Bool;
+  answer = λ κs x. x;
+  Lent = Unit {0};
+  lent = λ κs a. tt;
+  left = λ κs s. tt;
+}
+
 -- frames_right(vocoder: Vocoder, b: u8, marks: &[u8], room: &[u8]) -> bool
 abbrev pub framesRight : Call
 framesRight = record {

@@ -21,6 +21,34 @@ rowOf = record {
   left = λ κs s. tt;
 }
 
+-- cell_of(vocoder: Vocoder) -> usize
+abbrev pub cellOf : Call
+cellOf = record {
+  lifetimes = 0;
+  parameters = contracts.cell_of.Kinds.ps;
+  result = contracts.cell_of.Kinds.r;
+  allows = contracts.cell_of.Reads.Post;
+  Answer = ℕ;
+  answer = λ κs x. x;
+  Lent = Unit {0};
+  lent = λ κs a. tt;
+  left = λ κs s. tt;
+}
+
+-- packets_of(vocoder: Vocoder) -> usize
+abbrev pub packetsOf : Call
+packetsOf = record {
+  lifetimes = 0;
+  parameters = contracts.packets_of.Kinds.ps;
+  result = contracts.packets_of.Kinds.r;
+  allows = contracts.packets_of.Reads.Post;
+  Answer = ℕ;
+  answer = λ κs x. x;
+  Lent = Unit {0};
+  lent = λ κs a. tt;
+  left = λ κs s. tt;
+}
+
 -- body_size(vocoder: Vocoder, kind: u8) -> usize
 abbrev pub bodySize : Call
 bodySize = record {

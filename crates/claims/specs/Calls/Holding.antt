@@ -5,7 +5,7 @@ use Rattle.numbers.specs.declared.GroupNumbers.{GroupNumbers}
 use Rattle.holding.proofs as contracts
 use Rattle.claims.specs.Call.{Call}
 
--- begin(source: u32, sequence: u16, timestamp: u32, l: u8, b: u8) -> Holding
+-- begin(source: u32, numbers: GroupNumbers) -> Holding
 abbrev pub begin : Call
 begin = record {
   lifetimes = 0;

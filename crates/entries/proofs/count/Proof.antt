@@ -19,7 +19,7 @@ use Rattle.entries.proofs.count.Tie as tie
 abbrev Inv-entries : tie.InvT-entries
 Inv-entries vocoder rule entries n₀ at₀ n at =
     (at ≤ length entries) × (n ≤ at) ×
-    (countedFrom n (spec.entries (kindOf vocoder) (allowed (rowsOf vocoder) rule) 0 (drop at entries)) ≡ countedOf (entriesIn (kindOf vocoder) rule entries))
+    (countedFrom n (spec.entries (kindOf vocoder) (allowed (rowsOf vocoder) rule) at 0 (drop at entries)) ≡ countedOf (entriesIn (kindOf vocoder) rule entries))
 
 abbrev μ-entries : tie.MeasureT-entries
 μ-entries vocoder rule entries n₀ at₀ n at = length entries - at

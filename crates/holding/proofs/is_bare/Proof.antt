@@ -13,7 +13,7 @@ any-requires : tie.Need-any-requires
 any-requires c κs = search needs
 
 returns : tie.Need-returns
-returns c = blank-held _ (sym (c .before .any .ensures) ∙ c .if1 .taken)
+returns c = blank-held _ _ (sym (c .before .any .ensures) ∙ c .if1 .taken)
 
 no-marks-requires : tie.Need-no-marks-requires
 no-marks-requires c κs = search needs
@@ -41,7 +41,7 @@ returns-2 c =
     let at-any = at-if1 .before in
     let start = at-any .before .before .before in
     c .zeros .ensures
-    ∙ blank-room _ (sym (at-any .any .ensures) ∙ at-if1 .if1 .left) _
+    ∙ blank-room _ _ (sym (at-any .any .ensures) ∙ at-if1 .if1 .left) _
     (at-same .same .ensures ∙ ap (sameOctets (start .args .h .marks)) (at-no-marks .no-marks .ensures))
     (c .before .before .before .if2 .taken)
 
@@ -51,7 +51,7 @@ returns-3 c =
     let at-if1 = at-no-marks .before .before in
     let at-any = at-if1 .before in
     let start = at-any .before .before .before in
-    blank-marked _ (sym (at-any .any .ensures) ∙ at-if1 .if1 .left) _ (c .before .same .ensures ∙ ap (sameOctets (start .args .h .marks)) (at-no-marks .no-marks .ensures)) (c .if2 .left)
+    blank-marked _ _ (sym (at-any .any .ensures) ∙ at-if1 .if1 .left) _ (c .before .same .ensures ∙ ap (sameOctets (start .args .h .marks)) (at-no-marks .no-marks .ensures)) (c .if2 .left)
 
 pub is-bare-spec : {M : Type 1} → statement M
 is-bare-spec =

@@ -6,28 +6,28 @@ use Rattle.holding.proofs.is_nothing.Statement.{statement}
 use Rattle.holding.proofs.is_nothing.Tie as tie
 
 returns : tie.Need-returns
-returns c = has-source _ (c .if1 .taken)
+returns c = has-source _ _ (c .if1 .taken)
 
 returns-2 : tie.Need-returns-2
-returns-2 c = has-sequence _ (c .before .before .if1 .left) (c .if2 .taken)
+returns-2 c = has-sequence _ _ (c .before .before .if1 .left) (c .if2 .taken)
 
 returns-3 : tie.Need-returns-3
 returns-3 c =
     let at-if1 = c .before .before .before .before in
-    has-timestamp _ (at-if1 .if1 .left) (c .before .before .if2 .left) (c .if3 .taken)
+    has-timestamp _ _ (at-if1 .if1 .left) (c .before .before .if2 .left) (c .if3 .taken)
 
 returns-4 : tie.Need-returns-4
 returns-4 c =
     let at-if2 = c .before .before .before .before in
     let at-if1 = at-if2 .before .before in
-    has-length _ (at-if1 .if1 .left) (at-if2 .if2 .left) (c .before .before .if3 .left) (c .if4 .taken)
+    has-length _ _ (at-if1 .if1 .left) (at-if2 .if2 .left) (c .before .before .if3 .left) (c .if4 .taken)
 
 returns-5 : tie.Need-returns-5
 returns-5 c =
     let at-if3 = c .before .before .before .before in
     let at-if2 = at-if3 .before .before in
     let at-if1 = at-if2 .before .before in
-    has-bundle _ (at-if1 .if1 .left) (at-if2 .if2 .left) (at-if3 .if3 .left) (c .before .before .if4 .left) (c .if5 .taken)
+    has-bundle _ _ (at-if1 .if1 .left) (at-if2 .if2 .left) (at-if3 .if3 .left) (c .before .before .if4 .left) (c .if5 .taken)
 
 is-bare-requires : tie.Need-is-bare-requires
 is-bare-requires c κs = search needs
@@ -37,7 +37,7 @@ returns-6 c =
     let at-if3 = c .before .before .before .before .before in
     let at-if2 = at-if3 .before .before in
     let at-if1 = at-if2 .before .before in
-    c .is-bare .ensures ∙ is-blank _ (at-if1 .if1 .left) (at-if2 .if2 .left) (at-if3 .if3 .left) (c .before .before .before .if4 .left) (c .before .if5 .left)
+    c .is-bare .ensures ∙ is-blank _ _ (at-if1 .if1 .left) (at-if2 .if2 .left) (at-if3 .if3 .left) (c .before .before .before .if4 .left) (c .before .if5 .left)
 
 pub is-nothing-spec : {M : Type 1} → statement M
 is-nothing-spec =

@@ -3,6 +3,7 @@ use mathlib.Core.Path.{_≡_, _∙_}
 use native.Mathlib.Omega.{arith}
 use lib.ListN.{length}
 use borrow.Author.Needs.{needs}
+use Rattle.frame.specs.Shape.{holdingShape}
 use Rattle.holding.proofs.GroupLaws.{packets-cut}
 use Rattle.holding.proofs.same_packet.Statement.{statement}
 use Rattle.holding.proofs.same_packet.Tie as tie
@@ -57,7 +58,7 @@ same-bundles-requires : tie.Need-same-bundles-requires
 same-bundles-requires c κs = search needs
 
 returns : tie.Need-returns
-returns c = c .same-bundles .ensures ∙ packets-cut _ _ _
+returns c = c .same-bundles .ensures ∙ packets-cut holdingShape _ _ _ _
 
 pub same-packet-spec : {M : Type 1} → statement M
 same-packet-spec =

@@ -40,8 +40,8 @@ returns-3 c =
     (sym (at-holds-packet2 .holds-packet2 .ensures) ∙ not-false _ (c .before .before .before .if2 .left))
     (sym (c .before .before .same-group .ensures) ∙ not-true _ (c .before .if3 .taken))
 
-agrees-requires : tie.Need-agrees-requires
-agrees-requires c κs = search needs
+holdings-agree-requires : tie.Need-holdings-agree-requires
+holdings-agree-requires c κs = search needs
 
 refuse-requires-4 : tie.Need-refuse-requires-4
 refuse-requires-4 c κs = search needs
@@ -57,7 +57,7 @@ returns-4 c =
     ∙ packet-differs _ _ _ (sym (at-holds-packet .holds-packet .ensures) ∙ not-false _ (at-if1 .if1 .left))
     (sym (at-holds-packet2 .holds-packet2 .ensures) ∙ not-false _ (at-if2 .if2 .left))
     (sym (at-same-group .same-group .ensures) ∙ not-false _ (c .before .before .before .if3 .left))
-    (sym (c .before .before .agrees .ensures) ∙ not-true _ (c .before .if4 .taken))
+    (sym (c .before .before .holdings-agree .ensures) ∙ not-true _ (c .before .if4 .taken))
 
 either-requires : tie.Need-either-requires
 either-requires c κs = search needs
@@ -72,7 +72,7 @@ returns-5 c =
     join-done _ _ _ (sym (at-holds-packet .holds-packet .ensures) ∙ not-false _ (at-if1 .if1 .left))
     (sym (at-holds-packet2 .holds-packet2 .ensures) ∙ not-false _ (at-if2 .if2 .left))
     (sym (at-same-group .same-group .ensures) ∙ not-false _ (c .before .before .before .if3 .left))
-    (sym (c .before .before .agrees .ensures) ∙ not-false _ (c .before .if4 .left)) _ (c .either .ensures)
+    (sym (c .before .before .holdings-agree .ensures) ∙ not-false _ (c .before .if4 .left)) _ (c .either .ensures)
 
 pub join-spec : {M : Type 1} → statement M
 join-spec =
@@ -87,7 +87,7 @@ join-spec =
     same-group-requires
     refuse-requires-3
     returns-3
-    agrees-requires
+    holdings-agree-requires
     refuse-requires-4
     returns-4
     either-requires

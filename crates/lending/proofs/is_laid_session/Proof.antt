@@ -2,6 +2,7 @@
 use Prim.Native.Nat.{ℕ}
 use lib.ListN.{length-replicate}
 use borrow.Author.Needs.{needs}
+use Rattle.frame.specs.Shape.{holdingShape}
 use Rattle.holding.specs.Group.{Shaped}
 use Rattle.lending.proofs.Pieces.{length-session-laid}
 use Rattle.lending.proofs.LaidLaws.{laid-again}
@@ -31,7 +32,7 @@ same-requires c κs = search needs
 
 returns : tie.Need-returns
 returns c =
-    let s : Shaped (c .before .before .before .before .before .before .before .args .session .group) = search needs in
+    let s : Shaped holdingShape (c .before .before .before .before .before .before .before .args .session .group) = search needs in
     let at-lay-session = c .before .before .before .before in
     let start = at-lay-session .before .before .before in
     laid-again _ _ _ _ _ (start .pre) (length-replicate {A = ℕ} 2304 0) (length-session-laid _ s) (at-lay-session .lay-session .ensures) (c .same .ensures)

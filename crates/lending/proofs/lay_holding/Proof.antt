@@ -1,5 +1,6 @@
 -- `lending::lay_holding` meets its contract.
 use borrow.Author.Needs.{needs}
+use Rattle.frame.specs.Shape.{holdingShape}
 use Rattle.holding.specs.Group.{Shaped}
 use Rattle.lending.proofs.LaidLaws.{all-of-holding}
 use Rattle.lending.proofs.lay_holding.Statement.{statement}
@@ -16,7 +17,7 @@ same-length c = search needs
 
 returns : tie.Need-returns
 returns c =
-    let s : Shaped (c .before .before .before .before .before .before .before .before .before .args .h) = search needs in
+    let s : Shaped holdingShape (c .before .before .before .before .before .before .before .before .before .args .h) = search needs in
     let at-put-holding = c .before .before .before .before .before .before in
     all-of-holding _ s _ _ _ (at-put-holding .put-holding .ensures) (c .before .before .fill .ensures)
 

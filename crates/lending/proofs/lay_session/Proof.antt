@@ -1,5 +1,6 @@
 -- `lending::lay_session` meets its contract.
 use borrow.Author.Needs.{needs}
+use Rattle.frame.specs.Shape.{holdingShape}
 use Rattle.holding.specs.Group.{Shaped}
 use Rattle.lending.proofs.LaidLaws.{all-of-session}
 use Rattle.lending.proofs.lay_session.Statement.{statement}
@@ -19,7 +20,7 @@ same-length c = search needs
 
 returns : tie.Need-returns
 returns c =
-    let s : Shaped (c .before .before .before .before .before .before .before .before .before .before .before .before .before .before .args .session .group) = search needs in
+    let s : Shaped holdingShape (c .before .before .before .before .before .before .before .before .before .before .before .before .before .before .args .session .group) = search needs in
     let at-put-holding = c .before .before .before .before .before .before in
     let at-put-head = at-put-holding .before .before .before .before .before in
     all-of-session _ s _ _ _ _ (at-put-head .put-head .ensures) (at-put-holding .put-holding .ensures) (c .before .before .fill .ensures)

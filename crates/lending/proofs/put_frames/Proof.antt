@@ -1,13 +1,14 @@
 -- `lending::put_frames` meets its contract.
 use native.Mathlib.Omega.{arith}
 use borrow.Author.Needs.{needs}
+use Rattle.frame.specs.Shape.{holdingShape}
 use Rattle.holding.specs.Group.{Shaped}
 use Rattle.lending.proofs.LaidLaws.{frames-laid}
 use Rattle.lending.proofs.put_frames.Statement.{statement}
 use Rattle.lending.proofs.put_frames.Tie as tie
 
 -- what is lent is a holding's, found where the function begins
-shaped : (c : tie.Start) → Shaped (c .args .h)
+shaped : (c : tie.Start) → Shaped holdingShape (c .args .h)
 shaped c = search needs
 
 slice-aggregate-put-flags : tie.Need-slice-aggregate-put-flags

@@ -8,6 +8,7 @@ use borrow.Author.Needs.{needs}
 use Rattle.frame.proofs.FrameTableLaws.{rows-within, rows-single}
 use Rattle.form.specs.Agreed.{vocoderOf, tableOf}
 use Rattle.frame.proofs.PlacesLaws.{very-body}
+use Rattle.frame.specs.Shape.{holdingShape}
 use Rattle.bundle.proofs.LaidOutLaws.{LaidFirst, laid-none, laid-more, laid-all, short-at}
 use Rattle.payload.specs.Payload.{readAs}
 use Rattle.payload.specs.Shown.{framesRead}
@@ -21,7 +22,7 @@ Inv-frames form payload marks₀ room₀ k₀ marks room k =
     (k ≤ length (framesRead (readAs (tableOf form) form payload)))
     × (length marks ≡ 10)
     × (length room ≡ 220)
-    × LaidFirst (framesRead (readAs (tableOf form) form payload)) k marks room
+    × LaidFirst holdingShape (framesRead (readAs (tableOf form) form payload)) k marks room
 
 abbrev μ-frames : tie.MeasureT-frames
 μ-frames form payload marks₀ room₀ k₀ marks room k = 10 - k
@@ -34,7 +35,7 @@ frames-holds c =
     let m : length (c .before .before .not-held .result .marks) ≡ 10 = search needs in
     let r : length (c .before .before .not-held .result .room) ≡ 220 = search needs in
     let start = c .before .before .before .before in
-    let z = laid-none (framesRead (readAs (tableOf (start .args .form)) (start .args .form) (now (start .args .payload)))) in
+    let z = laid-none holdingShape (framesRead (readAs (tableOf (start .args .form)) (start .args .form) (now (start .args .payload)))) in
     (omega arith, m, r, rw (← c .before .before .not-held .ensures) at z)
 
 locate-requires : tie.Need-locate-requires Inv-frames μ-frames
@@ -81,8 +82,8 @@ copy-requires c κs =
     (laid-as (tableOf (start .args .form)) (start .args .form) (now (start .args .payload))) (sym (at-place .place .given .1) ∙ at-locate .locate .ensures)
     (c .before .part .ensures) .holds
     ∙ asked-body (tableOf (start .args .form)) (start .args .form) (now (start .args .payload)) (at-frames .frames .k) in
-    let s = short-at (framesRead (readAs (tableOf (start .args .form)) (start .args .form) (now (start .args .payload)))) (at-frames .frames .k)
-    (read-short (tableOf (start .args .form)) (start .args .form) (now (start .args .payload)) (rows-within (vocoderOf (start .args .form))) (rows-single (vocoderOf (start .args .form)))) (a .0) in
+    let s = short-at 22 (framesRead (readAs (tableOf (start .args .form)) (start .args .form) (now (start .args .payload)))) (at-frames .frames .k)
+    (read-short (tableOf (start .args .form)) (start .args .form) (now (start .args .payload)) 22 (rows-within (vocoderOf (start .args .form))) (rows-single (vocoderOf (start .args .form)))) (a .0) in
     omega (
       arith,
       a .0,
@@ -125,11 +126,12 @@ frames-again c =
     (laid-as (tableOf (start .args .form)) (start .args .form) (now (start .args .payload))) (sym (at-place .place .given .1) ∙ at-locate .locate .ensures)
     (at-part .part .ensures) .holds
     ∙ asked-body (tableOf (start .args .form)) (start .args .form) (now (start .args .payload)) (at-frames .frames .k) in
-    let s = read-short (tableOf (start .args .form)) (start .args .form) (now (start .args .payload)) (rows-within (vocoderOf (start .args .form))) (rows-single (vocoderOf (start .args .form))) in (
+    let one = rows-single (vocoderOf (start .args .form)) in
+    let s = read-short (tableOf (start .args .form)) (start .args .form) (now (start .args .payload)) 22 (rows-within (vocoderOf (start .args .form))) one in (
       omega (arith, a .0),
       length-set (at-frames .frames .marks) (at-frames .frames .k) _ ∙ at-frames .frames .inv .1,
       c .before .copy .kept .0 ∙ at-frames .frames .inv .2,
-      laid-more _ (read-few (tableOf (start .args .form)) (start .args .form) (now (start .args .payload)) (rows-single (vocoderOf (start .args .form)))) s (at-frames .frames .k) (a .0) _ _ _ _ _
+      laid-more holdingShape _ (read-few (tableOf (start .args .form)) (start .args .form) (now (start .args .payload)) one) s (at-frames .frames .k) (a .0) _ _ _ _ _
           (at-frames .frames .inv .3) (a .1) b (c .before .copy .ensures),
     )
 
@@ -137,7 +139,7 @@ returns : tie.Need-returns Inv-frames μ-frames
 returns c =
     let at-frames = c .before .before .before in
     let start = at-frames .before .before .before .before .before in
-    laid-all _ (at-frames .frames .k) _ _
+    laid-all holdingShape _ (at-frames .frames .k) _ _
     (asked-none (tableOf (start .args .form)) (start .args .form) (now (start .args .payload)) (at-frames .frames .k) _
     (sym (c .enum-told .given .1) ∙ c .before .before .locate .ensures))
     (at-frames .frames .inv .3)

@@ -16,7 +16,7 @@ use Rattle.payload.proofs.walk.Tie as tie
 abbrev Inv-entries : tie.InvT-entries
 Inv-entries vocoder max-b payload max count₀ size₀ count size =
     (count ≤ max-b) × (size ≤ 22 * count) ×
-    (walkedFrom (rowsOf vocoder) count size (toc (rowsOf vocoder) max-b count (drop (count + 1) payload)) ≡ walked (rowsOf vocoder) (toc (rowsOf vocoder) max-b 0 (drop 1 payload)))
+    (walkedFrom (rowsOf vocoder) count size (toc (rowsOf vocoder) max-b count (count + 1) (drop (count + 1) payload)) ≡ walked (rowsOf vocoder) (toc (rowsOf vocoder) max-b 0 1 (drop 1 payload)))
 
 abbrev μ-entries : tie.MeasureT-entries
 μ-entries vocoder max-b payload max count₀ size₀ count size = length payload - count

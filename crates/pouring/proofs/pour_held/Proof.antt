@@ -5,8 +5,9 @@ use native.Mathlib.Omega.{arith}
 use lib.ListN.{length}
 use borrow.Author.Needs.{needs}
 use Rattle.answers.proofs.OutputsLaws.{writes-no-room, writes-octets}
+use Rattle.frame.specs.Shape.{shapeOf}
 use Rattle.frame.proofs.FrameTableLaws.{rows-within}
-use Rattle.holding.specs.Group.{vocoderIn, tableOf}
+use Rattle.holding.specs.Group.{vocoderIn, voiceIn}
 use Rattle.holding.proofs.GroupLaws.{sound-has, holds-sound}
 use Rattle.pouring.proofs.PouringLaws.{length-rows}
 use Rattle.pouring.proofs.pour_held.Statement.{statement}
@@ -25,18 +26,19 @@ slice-aggregate-pour-size : tie.Need-slice-aggregate-pour-size
 slice-aggregate-pour-size c = search needs
 
 pour-size-requires : tie.Need-pour-size-requires
+unfolding shapeOf
 pour-size-requires c κs =
     let m : length (c .before .before .before .before .before .args .h .marks) ≡ 80 = search needs in
     let start = c .before .before .before .before .before in
-    let s = sound-has (tableOf (start .args .h)) (start .args .h) (holds-sound (tableOf (start .args .h)) (start .args .h) (start .pre) .0) in
+    let s = sound-has (voiceIn (start .args .h)) (start .args .h) (holds-sound (voiceIn (start .args .h)) (start .args .h) (start .pre) .0) in
     (m, omega (arith, s .low), s .few)
 
 returns : tie.Need-returns
 returns c =
     let r : length (c .before .before .before .before .before .before .before .args .h .room) ≡ 1760 = search needs in
     let start = c .before .before .before .before .before .before .before in
-    let s = sound-has (tableOf (start .args .h)) (start .args .h) (holds-sound (tableOf (start .args .h)) (start .args .h) (start .pre) .0) in
-    let e = length-rows (tableOf (start .args .h)) (rows-within (vocoderIn (start .args .h))) (start .args .h .marks) (start .args .h .room) r
+    let s = sound-has (voiceIn (start .args .h)) (start .args .h) (holds-sound (voiceIn (start .args .h)) (start .args .h) (start .pre) .0) in
+    let e = length-rows (voiceIn (start .args .h)) (rows-within (vocoderIn (start .args .h))) (start .args .h .marks) (start .args .h .room) r
     (start .args .h .l + 1) (start .args .h .b) (omega (arith, s .low)) (s .few) in
     writes-no-room _ _ _ refl (omega (arith, c .before .pour-size .ensures .0, c .if1 .taken))
 
@@ -47,25 +49,27 @@ slice-aggregate-pour-rows-2 : tie.Need-slice-aggregate-pour-rows-2
 slice-aggregate-pour-rows-2 c = search needs
 
 pour-rows-requires : tie.Need-pour-rows-requires
+unfolding shapeOf
 pour-rows-requires c κs =
     let m : length (c .before .before .before .before .before .before .before .before .before .before .before .args .h .marks) ≡ 80 = search needs in
     let r : length (c .before .before .before .before .before .before .before .before .before .before .before .args .h .room) ≡ 1760 = search needs in
     let at-pour-size = c .before .before .before .before .before in
     let start = at-pour-size .before .before .before .before .before .before in
-    let s = sound-has (tableOf (start .args .h)) (start .args .h) (holds-sound (tableOf (start .args .h)) (start .args .h) (start .pre) .0) in
+    let s = sound-has (voiceIn (start .args .h)) (start .args .h) (holds-sound (voiceIn (start .args .h)) (start .args .h) (start .pre) .0) in
     (m, r, omega (arith, s .low), s .few, omega (arith, at-pour-size .pour-size .ensures .0))
 
 same-length : tie.Need-same-length
 same-length c = search needs
 
 returns-2 : tie.Need-returns-2
+unfolding shapeOf
 returns-2 c =
     let r : length (c .before .before .before .before .before .before .before .before .before .before .before .before .before .before .args .h .room) ≡ 1760 = search needs in
     let at-if1 = c .before .before .before .before .before .before .before in
     let at-pour-size = at-if1 .before in
     let start = at-pour-size .before .before .before .before .before .before in
-    let s = sound-has (tableOf (start .args .h)) (start .args .h) (holds-sound (tableOf (start .args .h)) (start .args .h) (start .pre) .0) in
-    let e = length-rows (tableOf (start .args .h)) (rows-within (vocoderIn (start .args .h))) (start .args .h .marks) (start .args .h .room) r
+    let s = sound-has (voiceIn (start .args .h)) (start .args .h) (holds-sound (voiceIn (start .args .h)) (start .args .h) (start .pre) .0) in
+    let e = length-rows (voiceIn (start .args .h)) (rows-within (vocoderIn (start .args .h))) (start .args .h .marks) (start .args .h .room) r
     (start .args .h .l + 1) (start .args .h .b) (omega (arith, s .low)) (s .few) in
     writes-octets _ _ _ _ _ refl (omega (arith, at-pour-size .pour-size .ensures .0, at-if1 .if1 .left))
     (at-pour-size .pour-size .ensures .0 ∙ sym e) (c .before .before .pour-rows .ensures)

@@ -6,7 +6,8 @@ use lib.ListN.{length}
 use denote.Ref.{now}
 use Rattle.entries.specs.Entries.{entriesOf}
 use Rattle.frame.specs.FrameTable.{rowsOf}
-use Rattle.frame.proofs.FrameTableLaws.{rows-within}
+use Rattle.frame.specs.Shape.{voiceOf}
+use Rattle.frame.proofs.FrameTableLaws.{rows-fit}
 use Rattle.octets.specs.Octets.{over}
 use Rattle.pouring.specs.Pouring.{rows, rowsSize}
 use Rattle.pouring.proofs.PouringLaws.{rows-size-more, rows-size-grows, rows-more, rows-none}
@@ -15,7 +16,7 @@ use Rattle.pouring.proofs.pour_rows.Tie as tie
 
 abbrev Inv-loop : tie.InvT-loop
 Inv-loop vocoder marks room m b out₀ at₀ k₀ out at k =
-    (k ≤ b) × (length out ≡ length out₀) × (at ≡ rowsSize (rowsOf vocoder) marks m k) × (out ≡ over out₀ 0 (entriesOf (rows (rowsOf vocoder) marks room m k)))
+    (k ≤ b) × (length out ≡ length out₀) × (at ≡ rowsSize (rowsOf vocoder) marks m k) × (out ≡ over out₀ 0 (entriesOf (rows (voiceOf vocoder) marks room m k)))
 
 abbrev μ-loop : tie.MeasureT-loop
 μ-loop vocoder marks room m b out₀ at₀ k₀ out at k = b - k
@@ -47,7 +48,7 @@ loop-again c =
       omega arith,
       at-pour-row .pour-row .kept .1 .1 .1 .1 .1 .0 ∙ at-loop .loop .inv .1,
       at-pour-row .pour-row .ensures .0 ∙ rows-size-more _ _ _ _ _ _ (at-loop .loop .inv .2) refl,
-      rows-more (rowsOf (start .args .vocoder)) (rows-within (start .args .vocoder)) _ _ (start .pre .1) _ _ (start .pre .2) (omega (arith, start .pre .3)) _ _ _ _
+      rows-more (voiceOf (start .args .vocoder)) (rows-fit (start .args .vocoder)) _ _ (start .pre .1) _ _ (start .pre .2) (omega (arith, start .pre .3)) _ _ _ _
           (at-loop .loop .inv .2) (at-loop .loop .inv .3) (at-pour-row .pour-row .ensures .1),
     )
 

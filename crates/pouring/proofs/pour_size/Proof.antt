@@ -9,7 +9,7 @@ use Rattle.pouring.proofs.pour_size.Statement.{statement}
 use Rattle.pouring.proofs.pour_size.Tie as tie
 
 abbrev Inv-loop : tie.InvT-loop
-Inv-loop vocoder marks m b size₀ k₀ size k = (k ≤ b) × (size ≤ 184 * k) × (size ≡ rowsSize (rowsOf vocoder) marks m k)
+Inv-loop vocoder marks m b size₀ k₀ size k = (k ≤ b) × (size ≤ 2048 * k) × (size ≡ rowsSize (rowsOf vocoder) marks m k)
 
 abbrev μ-loop : tie.MeasureT-loop
 μ-loop vocoder marks m b size₀ k₀ size k = b - k

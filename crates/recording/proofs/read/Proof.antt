@@ -1,8 +1,7 @@
 -- `recording::read` meets its contract. Assumes nothing.
-use mathlib.Core.Path.{sym, ap, _∙_}
+use mathlib.Core.Path.{sym, _∙_}
 use borrow.Author.Needs.{needs}
 use Rattle.octets.proofs.OctetsLaws.{to-the-end}
-use Rattle.entries.specs.Counting.{countedOf}
 use Rattle.recording.proofs.Answering.{opened, not-opened}
 use Rattle.recording.proofs.Opening.{long-enough}
 use Rattle.recording.proofs.read.Statement.{statement}
@@ -24,7 +23,7 @@ count-requires : tie.Need-count-requires
 count-requires c κs = search needs
 
 returns : tie.Need-returns
-returns c = rw to-the-end at (c .count .ensures) ∙ sym (ap countedOf (opened _ _ (sym (c .before .before .before .opens .ensures) ∙ c .before .before .if1 .taken)))
+returns c = rw to-the-end at (c .count .ensures) ∙ opened _ _ (sym (c .before .before .before .opens .ensures) ∙ c .before .before .if1 .taken)
 
 returns-2 : tie.Need-returns-2
 returns-2 c = not-opened _ _ (sym (c .before .opens .ensures) ∙ c .if1 .left)

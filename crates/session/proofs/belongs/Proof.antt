@@ -23,7 +23,7 @@ returns : tie.Need-returns
 returns c =
     let then = c .before .before .before in
     let held = sym (then .before .is-held .ensures) ∙ then .if1 .taken in
-    c .accepted .ensures ∙ again _ _ held (sym (c .before .before .same-packet .ensures) ∙ c .before .if2 .taken)
+    c .accepted .ensures ∙ again _ _ _ held (sym (c .before .before .same-packet .ensures) ∙ c .before .if2 .taken)
 
 refused-requires : tie.Need-refused-requires
 refused-requires c κs = search needs
@@ -32,7 +32,7 @@ returns-2 : tie.Need-returns-2
 returns-2 c =
     let then = c .before .before .before in
     let held = sym (then .before .is-held .ensures) ∙ then .if1 .taken in
-    c .refused .ensures ∙ differs _ _ held (sym (c .before .before .same-packet .ensures) ∙ c .before .if2 .left)
+    c .refused .ensures ∙ differs _ _ _ held (sym (c .before .before .same-packet .ensures) ∙ c .before .if2 .left)
 
 with-packet-requires : tie.Need-with-packet-requires
 with-packet-requires c κs = search needs
@@ -49,7 +49,7 @@ returns-3 c =
     let held = sym (then .before .is-held .ensures) ∙ then .if1 .left in
     c .accepted2 .ensures
     ∙ ap (λ (x : Session). accept x 0) (c .before .with-group .ensures ∙ rw (c .before .before .with-packet .ensures))
-    ∙ put-in _ _ held
+    ∙ put-in _ _ _ held
 
 pub belongs-spec : {M : Type 1} → statement M
 belongs-spec =

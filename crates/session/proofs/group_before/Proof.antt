@@ -13,16 +13,16 @@ numbers-of-requires : tie.Need-numbers-of-requires
 numbers-of-requires c κs = search needs
 
 returns : tie.Need-returns
-returns c = one-held _ _ (sym (c .before .before .is-nothing .ensures) ∙ not-true _ (c .before .if1 .taken)) (c .numbers-of .ensures)
+returns c = one-held _ _ _ (sym (c .before .before .is-nothing .ensures) ∙ not-true _ (c .before .if1 .taken)) (c .numbers-of .ensures)
 
 last-numbers-requires : tie.Need-last-numbers-requires
 last-numbers-requires c κs = search needs
 
 returns-2 : tie.Need-returns-2
-returns-2 c = one-poured _ _ (sym (c .before .before .before .is-nothing .ensures) ∙ not-false _ (c .before .before .if1 .left)) (c .before .if2 .taken) (c .last-numbers .ensures)
+returns-2 c = one-poured _ _ _ (sym (c .before .before .before .is-nothing .ensures) ∙ not-false _ (c .before .before .if1 .left)) (c .before .if2 .taken) (c .last-numbers .ensures)
 
 returns-3 : tie.Need-returns-3
-returns-3 c = none-before _ (sym (c .before .before .is-nothing .ensures) ∙ not-false _ (c .before .if1 .left)) (c .if2 .left)
+returns-3 c = none-before _ _ (sym (c .before .before .is-nothing .ensures) ∙ not-false _ (c .before .if1 .left)) (c .if2 .left)
 
 pub group-before-spec : {M : Type 1} → statement M
 group-before-spec =

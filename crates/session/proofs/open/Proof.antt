@@ -12,10 +12,10 @@ vacant-requires : tie.Need-vacant-requires
 vacant-requires c κs = search needs
 
 returns : tie.Need-returns
-returns c = opens _ _ _ _ (sym (c .before .before .is-form-right .ensures) ∙ c .before .if1 .taken) (c .vacant .ensures)
+returns c = opens _ _ _ _ _ (sym (c .before .before .is-form-right .ensures) ∙ c .before .if1 .taken) (c .vacant .ensures)
 
 returns-2 : tie.Need-returns-2
-returns-2 c = not-opened _ _ _ (sym (c .before .is-form-right .ensures) ∙ c .if1 .left)
+returns-2 c = not-opened _ _ _ _ (sym (c .before .is-form-right .ensures) ∙ c .if1 .left)
 
 pub open-spec : {M : Type 1} → statement M
 open-spec = tie.close (tie.spec is-form-right-requires vacant-requires returns returns-2)

@@ -32,17 +32,17 @@ refused-requires c κs = search needs
 returns : tie.Need-returns
 returns c =
     let then = c .before .before .before .before in
-    c .begin-group .ensures ∙ it-begins _ _ _ _ (then .before .group-before .ensures) (then .decide .ensures) _ (c .before .before .verdict .given .1)
+    c .begin-group .ensures ∙ it-begins _ _ _ _ _ (then .before .group-before .ensures) (then .decide .ensures) _ (c .before .before .verdict .given .1)
 
 returns-2 : tie.Need-returns-2
 returns-2 c =
     let then = c .before .before .before in
-    c .belongs .ensures ∙ it-belongs _ _ _ _ (then .before .group-before .ensures) (then .decide .ensures) (c .before .enum-told .given .1)
+    c .belongs .ensures ∙ it-belongs _ _ _ _ _ (then .before .group-before .ensures) (then .decide .ensures) (c .before .enum-told .given .1)
 
 returns-3 : tie.Need-returns-3
 returns-3 c =
     let then = c .before .before .before .before in
-    c .refused .ensures ∙ is-refused _ _ _ _ (then .before .group-before .ensures) (then .decide .ensures) _ (c .before .before .verdict2 .given .1)
+    c .refused .ensures ∙ is-refused _ _ _ _ _ (then .before .group-before .ensures) (then .decide .ensures) _ (c .before .before .verdict2 .given .1)
 
 pub place-spec : {M : Type 1} → statement M
 place-spec =

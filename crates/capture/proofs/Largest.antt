@@ -22,7 +22,7 @@ use Rattle.answers.specs.Outputs.{Made}
 use Rattle.answers.specs.Outputs as outputs
 use Rattle.entries.specs.Kind.{Kind}
 use Rattle.entries.specs.Entries.{entriesOf}
-use Rattle.holding.specs.Group.{isNothing, heldAt, bundleAt, withPacket, begun, holds, rightAt}
+use Rattle.holding.specs.Group.{isNothing, heldAt, bundleAt, withPacket, begun, holds, rightIn, rightAt}
 use Rattle.bundle.specs.Bundles.{notHeld, sameBundles, markAt, frameOf}
 use Rattle.holding.specs.declared.Holding.{Holding}
 use Rattle.bundle.specs.declared.Bundle.{Bundle}
@@ -59,7 +59,7 @@ module _ (v : FrameTable) (w : T (within 22 v)) (z : T (erases v)) (h : Holding)
   here n k = frameOf (voiceWith v) (bundleAt holdingShape h n) k
 
   lost-mark : (n k : ℕ) → n < 8 → k < 10 → heldAt h n ≡ false → markAt (bundleAt holdingShape h n) k ≡ erasure
-  unfolding rightAt sameBundles markAt notHeld
+  unfolding rightIn heldAt sameBundles markAt notHeld
   lost-mark n k p q e =
       let b = bundleAt holdingShape h n in
       let s : sameBundles b (notHeld holdingShape) ≡ true = packet-lost (voiceWith v) (h .l) (h .b) n (heldAt h n) b e ∙ right n p in

@@ -6,7 +6,7 @@ use Rattle.payload.specs.Payload.{toc, bodies, interleaved, oneBody, readAs}
 use Rattle.payload.specs.Shown.{givenOf, givenAs}
 use Rattle.numbers.specs.Place.{differ, atDistance, withHeld, afterGap, afterPoured, decided}
 use Rattle.octets.specs.Octets.{twoAt, fourAt, over, anySet, sameOctets, allZero, allBelow, region}
-use Rattle.holding.specs.Group.{nothing, begun, numbersOf, isNothing, bare, withPacket, heldAt, bundleOf, packetRight, rightAt, sound}
+use Rattle.holding.specs.Group.{nothing, begun, numbersOf, isNothing, bare, withPacket, heldAt, bundleOf, packetRight, rightIn, sound}
 use Rattle.holding.specs.Group.{holds}
 use Rattle.bundle.specs.Bundles.{sameBundles, notHeld, markAt, frameOf, mayStand, frameRight, framesRight}
 use Rattle.bundle.specs.LaidOut.{laid, filled, rooms}
@@ -29,7 +29,7 @@ p15 = record {
 whole-case : WholeCase
 unfolding rowsOf rowOf toc bodies interleaved readAs differ atDistance withHeld afterGap afterPoured decided twoAt fourAt over
     anySet sameOctets allZero upTo nothing begun numbersOf isNothing bare withPacket sameBundles notHeld markAt
-    mayStand frameRight framesRight heldAt bundleOf packetRight rightAt sound holds allBelow region laid filled
+    mayStand frameRight framesRight heldAt bundleOf packetRight rightIn sound holds allBelow region laid filled
     rooms frameOf row rows poured vacant fresh formRight lastRight groupRight isOpen refuse accept withGroup
     lastNumbers groupBefore begins belongs placedBy placed arrival judged received offered pourMade ended endFault
     tableFault countFault faultOf good startAt lengths heardAt packetsIn captureForm firstSession offeredTo takenOf

@@ -18,7 +18,7 @@ use Rattle.bundle.specs.declared.Bundle.{Bundle}
 use Rattle.octets.proofs.Regions.{region-fits, cut-is, cutAt}
 use Rattle.frame.proofs.FrameTableLaws.{cell-small, packets-few}
 use Rattle.frame.specs.declared.Vocoder.{Vocoder}
-use Rattle.holding.specs.Group.{begun, nothing, bare, isNothing, heldAt, bundleOf, packetRight, rightIn, rightAt, sound, holds}
+use Rattle.holding.specs.Group.{begun, nothing, bare, isNothing, bundleOf, packetRight, rightIn, rightAt, sound, holds}
 use Rattle.holding.specs.declared.Holding.{Holding}
 
 -- packet n's cells lie in the room of a vocoder's groups, which is not large
@@ -81,8 +81,8 @@ module _ (v : Voice) (h : Holding) where
   sound-many p q r = simp (le-leb _ _ p, le-leb _ _ q, lt-leb _ _ r)
 
   pub sound-packets : h .l ≤ v .shape .greatest → 1 ≤ h .b → h .b ≤ 10
-      → allBelow (rightIn v (h .l) (h .b) (h .held) (h .marks) (h .room)) (packetsOf (v .shape)) ≡ sound v h
-  unfolding sound rightIn rightAt heldAt
+      → allBelow (rightAt v h) (packetsOf (v .shape)) ≡ sound v h
+  unfolding sound
   sound-packets p q r = simp (le-leb _ _ p, le-leb _ _ q, le-leb _ _ r)
 
 -- what a holding that keeps the rule has

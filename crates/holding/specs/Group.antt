@@ -103,8 +103,8 @@ unfoldable pub rightIn : Voice → ℕ → ℕ → List Bool → List ℕ → Li
 rightIn v l b hs ms rs n = packetRight v l b n (getD hs n false) (bundleOf (v .shape) ms rs n)
 
 -- packet n of a holding keeps the rule
-unfoldable pub rightAt : Voice → Holding → ℕ → Bool
-rightAt v h n = packetRight v (h .l) (h .b) n (heldAt h n) (bundleAt (v .shape) h n)
+abbrev pub rightAt : Voice → Holding → ℕ → Bool
+rightAt v h n = rightIn v (h .l) (h .b) (h .held) (h .marks) (h .room) n
 
 -- what breaks it: "L above 7, B not 1 to 10", and a packet that breaks the rule
 unfoldable pub sound : Voice → Holding → Bool

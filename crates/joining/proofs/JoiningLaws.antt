@@ -75,9 +75,8 @@ pub agree-cut :
 unfolding agreeIn
 agree-cut v hs ms rs hs′ ms′ rs′ n c e = rw (e, packet-cut v ms rs n, packet-cut v ms′ rs′ n)
 
-pub agree-is :
-    (v : Shape) (a b : Holding) → allBelow (agreeIn v (a .held) (a .marks) (a .room) (b .held) (b .marks) (b .room)) (packetsOf v) ≡ agree v a b
-unfolding agree agreeIn agreeAt heldAt
+pub agree-is : (v : Shape) (a b : Holding) → allBelow (agreeAt v a b) (packetsOf v) ≡ agree v a b
+unfolding agree
 agree-is v a b = refl
 
 -- ---- taking packets, one by one

@@ -30,8 +30,8 @@ unfoldable pub agreeIn : Shape → List Bool → List ℕ → List ℕ → List 
 agreeIn shape hs ms rs hs′ ms′ rs′ n = meets (getD hs n false) (bundleOf shape ms rs n) (getD hs′ n false) (bundleOf shape ms′ rs′ n)
 
 -- packet n does not differ in two holdings
-unfoldable pub agreeAt : Shape → Holding → Holding → ℕ → Bool
-agreeAt shape a b n = meets (heldAt a n) (bundleAt shape a n) (heldAt b n) (bundleAt shape b n)
+abbrev pub agreeAt : Shape → Holding → Holding → ℕ → Bool
+agreeAt shape a b n = agreeIn shape (a .held) (a .marks) (a .room) (b .held) (b .marks) (b .room) n
 
 -- no packet does: else 14
 unfoldable pub agree : Shape → Holding → Holding → Bool

@@ -11,9 +11,9 @@ use Rattle.octets.specs.Octets.{anySet, allBelow}
 use Rattle.octets.proofs.Logic.{apart, both-true}
 use Rattle.frame.specs.Shape.{Shape, Voice, packetsOf}
 use Rattle.answers.specs.declared.Refusal.the-variants.{PacketDiffers}
-use Rattle.holding.specs.Group.{Shaped, heldAt, bundleAt, packetRight, rightAt, sound, holds}
+use Rattle.holding.specs.Group.{Shaped, heldAt, bundleAt, packetRight, rightIn, rightAt, sound, holds}
 use Rattle.bundle.specs.Bundles.{notHeld, sameBundles, framesRight}
-use Rattle.joining.specs.Joining.{meets, agreeAt, agree, either, refusedJoin, joinOf}
+use Rattle.joining.specs.Joining.{meets, agreeIn, agreeAt, agree, either, refusedJoin, joinOf}
 use Rattle.holding.specs.declared.Holding.{Holding}
 use Rattle.bundle.specs.declared.Bundle.{Bundle}
 use Rattle.answers.specs.declared.Answer.the-variants.{Done}
@@ -48,7 +48,7 @@ pub box-sound : (v : Voice) (h : Holding) → Box v h → Sound v h
 box-sound v h x = sound-has v h (holds-sound v h (x .some) .0)
 
 box-cell : (v : Voice) (h : Holding) → Box v h → (n : ℕ) → n < packetsOf (v .shape) → cellRight v (h .l) (h .b) n (cell (v .shape) h n) ≡ true
-unfolding cell rightAt
+unfolding cell rightIn heldAt
 box-cell v h x n k = all-at (rightAt v h) (packetsOf (v .shape)) n (box-sound v h x .packets) k
 
 cell-blank : (v : Voice) (l b n : ℕ) (x : Cell) → cellRight v l b n x ≡ true → x .0 ≡ false → x .1 ≡ notHeld (v .shape)
@@ -90,7 +90,7 @@ any-more (false ∷ s) (true ∷ t) e h f = refl
 any-more (false ∷ s) (false ∷ t) e h f = any-more s t (omega arith) (λ n k. h (suc n) (omega arith)) f
 
 right-cell : (v : Voice) (h : Holding) (n : ℕ) → rightAt v h n ≡ cellRight v (h .l) (h .b) n (cell (v .shape) h n)
-unfolding rightAt cell
+unfolding rightIn heldAt cell
 right-cell v h n = refl
 
 module _ (v : Voice) (a b : Holding) (x : Box v a) (y : Box v b) (g : SameHead a b) where
@@ -146,7 +146,7 @@ abbrev meetCells : Cell → Cell → Bool
 meetCells x y = meets (x .0) (x .1) (y .0) (y .1)
 
 agree-cell : (u : Shape) (a b : Holding) (n : ℕ) → agreeAt u a b n ≡ meetCells (cell u a n) (cell u b n)
-unfolding agreeAt cell
+unfolding agreeIn heldAt cell
 agree-cell u a b n = refl
 
 pub agree-at : (u : Shape) (a b : Holding) → agree u a b ≡ true → (n : ℕ) → n < packetsOf u → meetCells (cell u a n) (cell u b n) ≡ true

@@ -14,7 +14,7 @@ use Rattle.frame.specs.Shape.{Shape, Voice, packetsOf, roomOf}
 use Rattle.numbers.specs.declared.GroupNumbers.{GroupNumbers}
 use Rattle.frame.specs.Places.{frameAt, noFrame, upTo}
 use Rattle.frame.proofs.PlacesLaws.{length-upTo, upTo-at, every-at}
-use Rattle.holding.specs.Group.{Shaped, begun, heldAt, bundleOf, bundleAt, withPacket, packetRight, rightAt, sound, holds}
+use Rattle.holding.specs.Group.{Shaped, begun, heldAt, bundleOf, bundleAt, withPacket, packetRight, rightIn, rightAt, sound, holds}
 use Rattle.bundle.specs.Bundles.{notHeld, markAt, frameOf, framesRight}
 use Rattle.bundle.specs.LaidOut.{filled, laid}
 use Rattle.holding.specs.declared.Holding.{Holding}
@@ -71,12 +71,12 @@ unfolding withPacket
 with-head u h n p = record { source = refl; sequence = refl; timestamp = refl; l = refl; b = refl }
 
 right-at-cell : (v : Voice) (g h : Holding) (m : ℕ) → g .l ≡ h .l → g .b ≡ h .b → cell (v .shape) g m ≡ cell (v .shape) h m → rightAt v g m ≡ rightAt v h m
-unfolding rightAt cell
+unfolding rightIn heldAt cell
 right-at-cell v g h m e f q =
     ap₂ (λ (l b : ℕ). packetRight v l b m (heldAt g m) (bundleAt (v .shape) g m)) e f ∙ ap (λ (c : Cell). packetRight v (h .l) (h .b) m (c .0) (c .1)) q
 
 right-put : (v : Voice) (g : Holding) (n : ℕ) (p : Bundle) → cell (v .shape) g n ≡ (true, p) → n ≤ g .l → framesRight v (g .b) p ≡ true → rightAt v g n ≡ true
-unfolding rightAt cell packetRight
+unfolding rightIn heldAt cell packetRight
 right-put v g n p q le r =
     ap (λ (c : Cell). packetRight v (g .l) (g .b) n (c .0) (c .1)) q ∙ rw (le-leb n (g .l) le, r)
 
@@ -167,7 +167,7 @@ module _ (v : Voice) (source : ℕ) (g : GroupNumbers) where
   begun-lost m k = getD-replicate (packetsOf (v .shape)) m false false k
 
   begun-right : (m : ℕ) → m < packetsOf (v .shape) → rightAt v none m ≡ true
-  unfolding rightAt packetRight
+  unfolding rightIn heldAt packetRight
   begun-right m k = rw (begun-lost m k, begun-erased m k) (packets-refl (notHeld (v .shape)))
 
   begun-shaped : Shaped (v .shape) none

@@ -16,7 +16,7 @@ use Rattle.octets.proofs.Regions.{region-fits, length-region}
 use Rattle.frame.specs.FrameTable.{FrameTable, Frame, rowsOf, size, within}
 use Rattle.frame.specs.Shape.{Voice, packetsOf, roomOf, shapeOf}
 use Rattle.frame.specs.declared.Vocoder.{Vocoder}
-use Rattle.frame.proofs.FrameTableLaws.{size-within, row-fits, cell-small, packets-few}
+use Rattle.frame.proofs.FrameTableLaws.{size-within, row-fits, cell-small}
 use Rattle.entries.specs.Entries.{entriesOf}
 use Rattle.frame.specs.Places.{upTo, frameAt, noFrame}
 use Rattle.frame.proofs.PlacesLaws.{length-upTo, upTo-at}
@@ -24,6 +24,7 @@ use Rattle.answers.specs.Outputs.{octets, refusedOutput}
 use Rattle.answers.specs.declared.Refusal.the-variants.{NotApplicable}
 use Rattle.bundle.specs.Bundles.{markAt, frameOf}
 use Rattle.holding.specs.Group.{bundleOf, holds}
+use Rattle.holding.proofs.GroupLaws.{packet-in}
 use Rattle.holding.specs.declared.Holding.{Holding}
 use Rattle.pouring.specs.Pouring.{row, rows, typeIn, rowSize, rowsSize, inTime, poured}
 
@@ -54,13 +55,17 @@ body-small v t = omega (arith, row-fits v t, cell-small v)
 
 -- where the code finds a cell: it ends within the room, and no number on the way there is large
 module _ (v : Vocoder) (c n k : ℕ) (e : c ≡ shapeOf v .cell) (p : n < packetsOf (shapeOf v)) (q : k < 10) where
-  pub cell-fits : c * 10 * n + c * k + c ≤ roomOf (shapeOf v) * packetsOf (shapeOf v)
-  cell-fits = rw e (omega (arith, region-fits (roomOf (shapeOf v)) n (packetsOf (shapeOf v)) p, region-fits (shapeOf v .cell) k 10 q))
+  abbrev room : ℕ
+  room = roomOf (shapeOf v) * packetsOf (shapeOf v)
+
+  packet-there : (c * 10 * n + c * 10 ≤ room) × (room ≤ 20400)
+  packet-there = packet-in v c (packetsOf (shapeOf v)) n room e refl p refl
+
+  pub cell-fits : c * 10 * n + c * k + c ≤ room
+  cell-fits = omega (arith, packet-there .0, region-fits c k 10 q)
 
   pub cell-low : c * 10 * n + c * k + c ≤ 20400
-  cell-low =
-      let f : c * 10 * n + c * 10 ≤ c * 10 * 8 = region-fits (c * 10) n 8 (omega (arith, packets-few v)) in
-      omega (arith, region-fits c k 10 q, cell-small v)
+  cell-low = omega (arith, cell-fits, packet-there .1)
 
 -- ---- sizes
 pub row-size-more : (t : FrameTable) (ms : List ℕ) (k m s z : ℕ) → k < 10 → s ≡ rowSize t ms k m → z ≡ size t (getD ms (10 * m + k) 0) → s + 1 + z ≡ rowSize t ms k (m + 1)

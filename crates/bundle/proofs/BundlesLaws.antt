@@ -5,17 +5,34 @@ use mathlib.Core.Path.{_≡_, refl, sym, ap, _∙_}
 use mathlib.Core.List.{List, [], _∷_}
 use native.Mathlib.Omega.{arith}
 use lib.ListN.{length, take, drop, getD, replicate}
-use lib.Dec.{eqb}
+use lib.Seq.{length-take-le}
+use lib.Dec.{T, eqb}
 use borrow.Author.Tests.{lt-ltb, le-ltb}
-use Rattle.octets.specs.Octets.{allZero, sameOctets}
+use Rattle.octets.specs.Octets.{allZero, sameOctets, region}
 use Rattle.octets.proofs.Logic.{both-false}
-use Rattle.frame.specs.FrameTable.{rowOf, known, erasure}
+use Rattle.frame.specs.FrameTable.{rowOf, known, size, within, erasure}
 use Rattle.frame.specs.Shape.{Shape, Voice, roomOf}
 use Rattle.frame.specs.declared.Row.{Row}
 use Rattle.frame.specs.declared.Lookup.the-variants.{Found, Missing}
-use Rattle.frame.proofs.FrameTableLaws.{found-known, found-size}
-use Rattle.octets.proofs.Regions.{tail-is}
-use Rattle.bundle.specs.Bundles.{bundleIn, notHeld, sameBundles, markAt, mayStand, frameRight}
+use Rattle.frame.proofs.FrameTableLaws.{size-within, found-known, found-size}
+use Rattle.octets.proofs.Regions.{region-fits, length-region, tail-is}
+use Rattle.bundle.specs.Bundles.{bundleIn, notHeld, sameBundles, markAt, frameOf, mayStand, frameRight}
+use Rattle.bundle.specs.declared.Bundle.{Bundle}
+
+-- ---- a frame and its cell
+pub cell-long : (v : Shape) (p : Bundle) (k : ℕ) → length (p .room) ≡ roomOf v → k < 10 → length (region (p .room) (v .cell) k) ≡ v .cell
+cell-long v p k e h =
+    let f : v .cell * k + v .cell ≤ roomOf v = region-fits (v .cell) k 10 h in
+    length-region (p .room) (v .cell) k (omega arith)
+
+-- its body is as long as the table says
+pub frame-long :
+    (v : Voice) → T (within (v .shape .cell) (v .table)) → (p : Bundle) (k : ℕ) → length (p .room) ≡ roomOf (v .shape) → k < 10
+    → length (frameOf v p k .body) ≡ size (v .table) (markAt p k)
+unfolding frameOf
+frame-long v w p k e h =
+    length-take-le (size (v .table) (markAt p k)) (region (p .room) (v .shape .cell) k)
+    (omega (arith, cell-long (v .shape) p k e h, size-within (v .shape .cell) (v .table) (markAt p k) w))
 
 -- ---- a packet that is not held
 zero-same : (rs : List ℕ) (n : ℕ) → length rs ≡ n → allZero rs ≡ sameOctets rs (replicate n 0)

@@ -1,4 +1,4 @@
-// Frames (document 01, "Frames"), refusals by number ("Answers by number"), the agreed form and where a frame lies ("Payloads").
+// Frames (document 01, "Frames"): vocoders, their frame tables and the shapes of their groups; and where a frame lies ("Payloads").
 use answers::Refusal;
 ghost use mathlib.Core.Path.{_≡_};
 ghost use Rattle.frame.specs.FrameTable.{evrc, rowsOf, rowOf, rowOfSize, size, lowBits, sendable};

@@ -21,8 +21,9 @@ use Rattle.frame.proofs.PlacesLaws.{length-upTo, upTo-at, types-at, length-type
 use Rattle.bundle.specs.Bundles.{bundleIn, notHeld, sameBundles, markAt, frameOf, mayStand, frameRight, framesRight}
 use Rattle.bundle.specs.LaidOut.{filled, rooms, laid}
 use Rattle.bundle.specs.declared.Bundle.{Bundle}
-use Rattle.octets.proofs.Regions.{region-fits, length-region}
+use Rattle.octets.proofs.Regions.{region-fits}
 use Rattle.octets.proofs.Below.{all-at, all-intro}
+use Rattle.bundle.proofs.BundlesLaws.{cell-long, frame-long}
 use Rattle.bundle.proofs.LaidOutLaws.{length-filled, Short, length-rooms, listed-short}
 use Rattle.knowledge.proofs.Cells.{Sized, regions-ext}
 
@@ -212,18 +213,9 @@ module _ (v : Voice) (w : T (within (v .shape .cell) (v .table))) (z : T (erases
   our-frame : (k : ℕ) → k < b → frameAt ours k ≡ frameOf v p k
   our-frame k h = upTo-at (frameOf v p) b k noFrame h
 
-  room-long : (k : ℕ) → k < 10 → length (region (p .room) (v .shape .cell) k) ≡ v .shape .cell
-  room-long k h =
-      let f : v .shape .cell * k + v .shape .cell ≤ roomOf (v .shape) = region-fits (v .shape .cell) k 10 h in
-      length-region (p .room) (v .shape .cell) k (omega (arith, s .bodies))
-
   our-listed-at : (k : ℕ) → k < b → Listed (v .table) (frameOf v p k)
   unfolding frameOf
-  our-listed-at k h =
-      record {
-        type-known = right-at k (omega arith) .type-known;
-        octets = length-take-le (size (v .table) (markAt p k)) (region (p .room) (v .shape .cell) k) (omega (arith, room-long k (omega arith), size-within (v .shape .cell) (v .table) (markAt p k) w));
-      }
+  our-listed-at k h = record { type-known = right-at k (omega arith) .type-known; octets = frame-long v w p k (s .bodies) (omega arith) }
 
   pub right-listed : AllListed (v .table) ours
   right-listed = every-upTo (Listed (v .table)) (frameOf v p) b our-listed-at
@@ -247,13 +239,14 @@ module _ (v : Voice) (w : T (within (v .shape .cell) (v .table))) (z : T (erases
   unfolding frameOf
   room-same k h true q =
       let i : k < b = ltb-true k b q in
-      room-filled (region (p .room) (v .shape .cell) k) (v .shape .cell) (size (v .table) (markAt p k)) (room-long k h) (size-within (v .shape .cell) (v .table) (markAt p k) w) (right-at k h .clear)
+      room-filled (region (p .room) (v .shape .cell) k) (v .shape .cell) (size (v .table) (markAt p k))
+      (cell-long (v .shape) p k (s .bodies) h) (size-within (v .shape .cell) (v .table) (markAt p k) w) (right-at k h .clear)
       ∙ sym (laid-room (v .shape) ours (omega (arith, many)) short-ours k (omega (arith, many)) ∙ ap (λ (f : Frame). filled (v .shape .cell) 0 (f .body)) (our-frame k i))
   room-same k h false q =
       let i : b ≤ k = ltb-false k b q in
       let e : size (v .table) (markAt p k) ≡ 0 = ap (size (v .table)) (past-erased b k (markAt p k) (right-at k h .stands) i) ∙ erasure-listed (v .table) z .1 in
       let c : allZero (region (p .room) (v .shape .cell) k) ≡ true = rw e at (right-at k h .clear) in
-      zeros-are (region (p .room) (v .shape .cell) k) c ∙ ap (λ (n : ℕ). replicate n 0) (room-long k h)
+      zeros-are (region (p .room) (v .shape .cell) k) c ∙ ap (λ (n : ℕ). replicate n 0) (cell-long (v .shape) p k (s .bodies) h)
       ∙ sym (laid-room-past (v .shape) ours (omega (arith, many)) short-ours k (omega (arith, many)) h)
 
   pub right-laid : p ≡ laid (v .shape) ours

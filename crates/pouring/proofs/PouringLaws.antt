@@ -8,7 +8,7 @@ use native.Mathlib.Numerals.{add-one}
 use native.Mathlib.Nat.{zero-mul, suc-mul, mul-le-mul-right, zero-add, le-refl, eq-or-lt-of-le, le-of-suc-le-suc}
 use native.Mathlib.Omega.{arith}
 use lib.ListN.{length, take, drop, getD, set, length-append, length-take, length-drop, List·getD-append}
-use lib.Seq.{getD-append-add, getD-take, getD-drop, take-take, drop-drop, length-take-le}
+use lib.Seq.{getD-append-add, getD-take, getD-drop, take-take, drop-drop}
 use lib.Dec.{T}
 use Rattle.octets.specs.Octets.{over, region}
 use Rattle.octets.proofs.OctetsLaws.{over-append, over-nothing, set-over, part-is, drop-take}
@@ -23,6 +23,7 @@ use Rattle.frame.proofs.PlacesLaws.{length-upTo, upTo-at}
 use Rattle.answers.specs.Outputs.{octets, refusedOutput}
 use Rattle.answers.specs.declared.Refusal.the-variants.{NotApplicable}
 use Rattle.bundle.specs.Bundles.{markAt, frameOf}
+use Rattle.bundle.proofs.BundlesLaws.{frame-long}
 use Rattle.holding.specs.Group.{bundleOf, holds}
 use Rattle.holding.proofs.GroupLaws.{packet-in}
 use Rattle.holding.specs.declared.Holding.{Holding}
@@ -101,15 +102,11 @@ module _ (v : Voice) (w : T (within (v .shape .cell) (v .table))) (ms rs : List 
   here n k = frameOf v (bundleOf (v .shape) ms rs n) k
 
   length-body : (n k : ℕ) → n < packetsOf (v .shape) → k < 10 → length (here n k .body) ≡ size (v .table) (typeIn ms n k)
-  unfolding frameOf bundleOf markAt typeIn
+  unfolding bundleOf markAt typeIn
   length-body n k p q =
-      let c = v .shape .cell in
       let r = roomOf (v .shape) in
       let f : r * n + r ≤ length rs = subst (λ (i : ℕ). r * n + r ≤ i) (sym long) (region-fits r n (packetsOf (v .shape)) p) in
-      let g : c * k + c ≤ length (region rs r n) = subst (λ (i : ℕ). c * k + c ≤ i) (sym (length-region rs r n f)) (region-fits c k 10 q) in
-      let l : length (region (region rs r n) c k) ≡ c = length-region (region rs r n) c k g in
-      let z : size (v .table) (typeIn ms n k) ≤ c = size-within c (v .table) (typeIn ms n k) w in
-      length-take-le (size (v .table) (typeIn ms n k)) (region (region rs r n) c k) (omega arith)
+      frame-long v w (bundleOf (v .shape) ms rs n) k (length-region rs r n f) q
 
   length-row : (k m : ℕ) → m ≤ packetsOf (v .shape) → k < 10 → length (entriesOf (row v ms rs k m)) ≡ rowSize (v .table) ms k m
   unfolding row upTo rowSize

@@ -1,7 +1,7 @@
 -- Laws of a holding that the functions' proofs cite. Assumes nothing.
 use Prim.Native.Nat.{ℕ, _+_, _-_, _*_, _≤_, _<_}
 use mathlib.Core.Bool.{Bool, true, false, _&&_}
-use mathlib.Core.Path.{_≡_, refl, sym, ap, ap₂, _∙_}
+use mathlib.Core.Path.{_≡_, refl, sym, ap, _∙_}
 use mathlib.Core.List.{List}
 use native.Mathlib.Omega.{arith}
 use native.Mathlib.Nat.{mul-le-mul-left}
@@ -23,13 +23,13 @@ use Rattle.holding.specs.declared.Holding.{Holding}
 
 -- packet n's cells lie in the room of a vocoder's groups, which is not large
 pub packet-in :
-    (v : Vocoder) (c p n r : ℕ) → c ≡ shapeOf v .cell → p ≡ packetsOf (shapeOf v) → n < p → r ≡ roomOf (shapeOf v) * packetsOf (shapeOf v) →
+    (v : Vocoder) (c n r : ℕ) → c ≡ shapeOf v .cell → n < packetsOf (shapeOf v) → r ≡ roomOf (shapeOf v) * packetsOf (shapeOf v) →
     (c * 10 * n + c * 10 ≤ r) × (r ≤ 20400)
-packet-in v c p n r e f h l =
+packet-in v c n r e h l =
+    let p = packetsOf (shapeOf v) in
     let a : c * 10 * n + c * 10 ≤ c * 10 * p = region-fits (c * 10) n p h in
-    let b : c * 10 * p ≡ r = ap₂ (λ (i j : ℕ). i * 10 * j) e f ∙ sym l in
-    let few : p ≤ 8 = omega (arith, packets-few v) in
-    let m : c * 10 * p ≤ c * 10 * 8 = mul-le-mul-left (c * 10) few in
+    let b : c * 10 * p ≡ r = ap (λ (i : ℕ). i * 10 * p) e ∙ sym l in
+    let m : c * 10 * p ≤ c * 10 * 8 = mul-le-mul-left (c * 10) (packets-few v) in
     (omega arith, omega (arith, cell-small v))
 
 -- packet n, as the code cuts it

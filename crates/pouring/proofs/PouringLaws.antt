@@ -60,7 +60,7 @@ module _ (v : Vocoder) (c n k : ℕ) (e : c ≡ shapeOf v .cell) (p : n < packet
   room = roomOf (shapeOf v) * packetsOf (shapeOf v)
 
   packet-there : (c * 10 * n + c * 10 ≤ room) × (room ≤ 20400)
-  packet-there = packet-in v c (packetsOf (shapeOf v)) n room e refl p refl
+  packet-there = packet-in v c n room e p refl
 
   pub cell-fits : c * 10 * n + c * k + c ≤ room
   cell-fits = omega (arith, packet-there .0, region-fits c k 10 q)

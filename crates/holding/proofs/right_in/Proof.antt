@@ -1,6 +1,6 @@
 -- `holding::right_in` meets its contract.
 use Prim.Native.Nat.{ℕ, _*_}
-use mathlib.Core.Path.{refl, ap, _∙_}
+use mathlib.Core.Path.{ap, _∙_}
 use native.Mathlib.Omega.{arith}
 use denote.Ref.{now}
 use borrow.Author.Needs.{needs}
@@ -21,7 +21,7 @@ mul-octets c = search needs
 mul-from : tie.Need-mul-from
 mul-from c =
     let start = c .before .before .before .before in
-    let i = packet-in (start .args .vocoder) _ _ (start .args .n) _ (c .cell-of .ensures) refl (start .pre .0) (start .pre .1 .long-room) in
+    let i = packet-in (start .args .vocoder) _ (start .args .n) _ (c .cell-of .ensures) (start .pre .0) (start .pre .1 .long-room) in
     omega (arith, i .0, i .1)
 
 shared-slice-read-packet-right : tie.Need-shared-slice-read-packet-right
@@ -42,7 +42,7 @@ part-packet-right-end c = search needs
 add-packet-right-2 : tie.Need-add-packet-right-2
 add-packet-right-2 c =
     let start = c .before .before .before .before .before .before in
-    let i = packet-in (start .args .vocoder) _ _ (start .args .n) _ (c .before .before .cell-of .ensures) refl (start .pre .0) (start .pre .1 .long-room) in
+    let i = packet-in (start .args .vocoder) _ (start .args .n) _ (c .before .before .cell-of .ensures) (start .pre .0) (start .pre .1 .long-room) in
     omega (arith, i .0, i .1)
 
 sub-packet-right-2 : tie.Need-sub-packet-right-2
@@ -54,14 +54,14 @@ part-packet-right-start-2 c = search needs
 part-packet-right-end-2 : tie.Need-part-packet-right-end-2
 part-packet-right-end-2 c =
     let start = c .before .before .before .before .before .before in
-    let i = packet-in (start .args .vocoder) _ _ (start .args .n) _ (c .before .before .cell-of .ensures) refl (start .pre .0) (start .pre .1 .long-room) in
+    let i = packet-in (start .args .vocoder) _ (start .args .n) _ (c .before .before .cell-of .ensures) (start .pre .0) (start .pre .1 .long-room) in
     omega (arith, i .0, i .1)
 
 packet-right-requires : tie.Need-packet-right-requires
 packet-right-requires c κs =
     let at-cell-of = c .before .before .before in
     let start = at-cell-of .before .before .before .before in
-    let i = packet-in (start .args .vocoder) _ _ (start .args .n) _ (at-cell-of .cell-of .ensures) refl (start .pre .0) (start .pre .1 .long-room) in
+    let i = packet-in (start .args .vocoder) _ (start .args .n) _ (at-cell-of .cell-of .ensures) (start .pre .0) (start .pre .1 .long-room) in
     let ten = length-cut (now (start .args .marks)) 10 (start .args .n) (omega (arith, start .pre .0, start .pre .1 .long-marks)) in
     (ten, length-cut (now (start .args .room)) _ (start .args .n) (i .0) ∙ ap (λ (i : ℕ). i * 10) (at-cell-of .cell-of .ensures))
 

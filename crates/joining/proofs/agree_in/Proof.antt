@@ -1,6 +1,6 @@
 -- `joining::agree_in` meets its contract.
 use Prim.Native.Nat.{ℕ, _*_}
-use mathlib.Core.Path.{refl, ap, _∙_}
+use mathlib.Core.Path.{ap, _∙_}
 use native.Mathlib.Omega.{arith}
 use borrow.Author.Needs.{needs}
 use Rattle.holding.proofs.GroupLaws.{packet-in}
@@ -20,7 +20,7 @@ mul-octets c = search needs
 mul-from : tie.Need-mul-from
 mul-from c =
     let start = c .before .before .before .before .before .before .before in
-    let i = packet-in (start .args .vocoder) (c .cell-of .result) _ (start .args .n) _ (c .cell-of .ensures) refl (start .pre .0) (start .pre .1 .long-room) in
+    let i = packet-in (start .args .vocoder) (c .cell-of .result) (start .args .n) _ (c .cell-of .ensures) (start .pre .0) (start .pre .1 .long-room) in
     omega (arith, i .0, i .1)
 
 shared-slice-read-meets : tie.Need-shared-slice-read-meets
@@ -42,7 +42,7 @@ add-meets-2 : tie.Need-add-meets-2
 add-meets-2 c =
     let at-cell-of = c .before .before in
     let start = at-cell-of .before .before .before .before .before .before .before in
-    let i = packet-in (start .args .vocoder) (at-cell-of .cell-of .result) _ (start .args .n) _ (at-cell-of .cell-of .ensures) refl (start .pre .0) (start .pre .1 .long-room) in
+    let i = packet-in (start .args .vocoder) (at-cell-of .cell-of .result) (start .args .n) _ (at-cell-of .cell-of .ensures) (start .pre .0) (start .pre .1 .long-room) in
     omega (arith, i .0, i .1)
 
 sub-meets-2 : tie.Need-sub-meets-2
@@ -55,7 +55,7 @@ part-meets-end-2 : tie.Need-part-meets-end-2
 part-meets-end-2 c =
     let at-cell-of = c .before .before in
     let start = at-cell-of .before .before .before .before .before .before .before in
-    let i = packet-in (start .args .vocoder) (at-cell-of .cell-of .result) _ (start .args .n) _ (at-cell-of .cell-of .ensures) refl (start .pre .0) (start .pre .1 .long-room) in
+    let i = packet-in (start .args .vocoder) (at-cell-of .cell-of .result) (start .args .n) _ (at-cell-of .cell-of .ensures) (start .pre .0) (start .pre .1 .long-room) in
     omega (arith, i .0, i .1)
 
 shared-slice-read-meets-2 : tie.Need-shared-slice-read-meets-2
@@ -77,7 +77,7 @@ add-meets-4 : tie.Need-add-meets-4
 add-meets-4 c =
     let at-cell-of = c .before .before .before .before .before in
     let start = at-cell-of .before .before .before .before .before .before .before in
-    let i = packet-in (start .args .vocoder) (at-cell-of .cell-of .result) _ (start .args .n) _ (at-cell-of .cell-of .ensures) refl (start .pre .0) (start .pre .2 .long-room) in
+    let i = packet-in (start .args .vocoder) (at-cell-of .cell-of .result) (start .args .n) _ (at-cell-of .cell-of .ensures) (start .pre .0) (start .pre .2 .long-room) in
     omega (arith, i .0, i .1)
 
 sub-meets-4 : tie.Need-sub-meets-4
@@ -90,7 +90,7 @@ part-meets-end-4 : tie.Need-part-meets-end-4
 part-meets-end-4 c =
     let at-cell-of = c .before .before .before .before .before in
     let start = at-cell-of .before .before .before .before .before .before .before in
-    let i = packet-in (start .args .vocoder) (at-cell-of .cell-of .result) _ (start .args .n) _ (at-cell-of .cell-of .ensures) refl (start .pre .0) (start .pre .2 .long-room) in
+    let i = packet-in (start .args .vocoder) (at-cell-of .cell-of .result) (start .args .n) _ (at-cell-of .cell-of .ensures) (start .pre .0) (start .pre .2 .long-room) in
     omega (arith, i .0, i .1)
 
 meets-requires : tie.Need-meets-requires

@@ -1,6 +1,6 @@
 -- `joining::take_one` meets its contract.
 use Prim.Native.Nat.{ℕ, _*_}
-use mathlib.Core.Path.{refl, ap}
+use mathlib.Core.Path.{ap}
 use native.Mathlib.Omega.{arith}
 use denote.Ref.{now}
 use borrow.Author.Tests.{not-true, not-false}
@@ -47,13 +47,13 @@ mul-octets c = search needs
 mul-from : tie.Need-mul-from
 mul-from c =
     let start = c .before .before .before .before .before .before .before .before .before .before .before .before .before .before in
-    let i = packet-in (start .args .vocoder) (c .cell-of .result) _ (start .args .n) _ (c .cell-of .ensures) refl (start .pre .0) (start .pre .2 .long-room) in
+    let i = packet-in (start .args .vocoder) (c .cell-of .result) (start .args .n) _ (c .cell-of .ensures) (start .pre .0) (start .pre .2 .long-room) in
     omega (arith, i .0, i .1)
 
 add-copy-2 : tie.Need-add-copy-2
 add-copy-2 c =
     let start = c .before .before .before .before .before .before .before .before .before .before .before .before .before .before .before in
-    let i = packet-in (start .args .vocoder) (c .before .cell-of .result) _ (start .args .n) _ (c .before .cell-of .ensures) refl (start .pre .0) (start .pre .2 .long-room) in
+    let i = packet-in (start .args .vocoder) (c .before .cell-of .result) (start .args .n) _ (c .before .cell-of .ensures) (start .pre .0) (start .pre .2 .long-room) in
     omega (arith, i .0, i .1)
 
 sub-copy-2 : tie.Need-sub-copy-2
@@ -65,15 +65,15 @@ part-copy-start-2 c = search needs
 part-copy-end-2 : tie.Need-part-copy-end-2
 part-copy-end-2 c =
     let start = c .before .before .before .before .before .before .before .before .before .before .before .before .before .before .before in
-    let i = packet-in (start .args .vocoder) (c .before .cell-of .result) _ (start .args .n) _ (c .before .cell-of .ensures) refl (start .pre .0) (start .pre .2 .long-room) in
+    let i = packet-in (start .args .vocoder) (c .before .cell-of .result) (start .args .n) _ (c .before .cell-of .ensures) (start .pre .0) (start .pre .2 .long-room) in
     omega (arith, i .0, i .1)
 
 copy-requires-2 : tie.Need-copy-requires-2
 copy-requires-2 c κs =
     let at-cell-of = c .before .before in
     let start = at-cell-of .before .before .before .before .before .before .before .before .before .before .before .before .before .before in
-    let i = packet-in (start .args .vocoder) (at-cell-of .cell-of .result) _ (start .args .n) _ (at-cell-of .cell-of .ensures) refl (start .pre .0) (start .pre .1 .long-room) in
-    let j = packet-in (start .args .vocoder) (at-cell-of .cell-of .result) _ (start .args .n) _ (at-cell-of .cell-of .ensures) refl (start .pre .0) (start .pre .2 .long-room) in
+    let i = packet-in (start .args .vocoder) (at-cell-of .cell-of .result) (start .args .n) _ (at-cell-of .cell-of .ensures) (start .pre .0) (start .pre .1 .long-room) in
+    let j = packet-in (start .args .vocoder) (at-cell-of .cell-of .result) (start .args .n) _ (at-cell-of .cell-of .ensures) (start .pre .0) (start .pre .2 .long-room) in
     omega (arith, i .0, length-cut (now (start .args .from-room)) (at-cell-of .cell-of .result * 10) (start .args .n) (j .0))
 
 same-length : tie.Need-same-length

@@ -1,6 +1,6 @@
 -- Laws of any frame table. Assumes nothing.
 use Prim.Native.Nat.{ℕ, _-_, _*_, _^_, _%_, _≤_, _<_, zero-le}
-use mathlib.Core.Path.{_≡_, refl, sym, ap, _∙_}
+use mathlib.Core.Path.{_≡_, refl, sym, ap, subst, _∙_}
 use mathlib.Core.List.{List, [], _∷_}
 use mathlib.Core.Bool.{Bool, true, false, cond, _&&_}
 use native.Mathlib.Nat.{one-mul, mod-eq-of-lt, lt-of-lt-of-le}
@@ -40,14 +40,7 @@ pub in-any-by-size : (v : Vocoder) (n : ℕ) (l : Lookup) → l ≡ rowOfSize ev
 unfolding rowsOf
 in-any-by-size Evrc n l e = e
 
--- of the table of every vocoder: no body is longer than 22 octets, nor than a cell of its groups
-pub rows-within : (v : Vocoder) → T (within 22 (rowsOf v))
-unfolding rowsOf
-rows-within Evrc = tt
-
-pub rows-size : (v : Vocoder) (t : ℕ) → size (rowsOf v) t ≤ 22
-rows-size v t = size-within 22 (rowsOf v) t (rows-within v)
-
+-- of the table of every vocoder: no body is longer than a cell of its groups
 pub rows-fit : (v : Vocoder) → T (within (shapeOf v .cell) (rowsOf v))
 unfolding rowsOf shapeOf
 rows-fit Evrc = tt
@@ -67,8 +60,15 @@ packets-any Evrc = refl
 pub cell-small : (v : Vocoder) → shapeOf v .cell ≤ 255
 cell-small v = omega (arith, cell-any v)
 
+pub body-small : (v : Vocoder) (t : ℕ) → size (rowsOf v) t ≤ 255
+body-small v t = omega (arith, row-fits v t, cell-small v)
+
 pub packets-few : (v : Vocoder) → packetsOf (shapeOf v) ≤ 8
 packets-few v = omega (arith, packets-any v)
+
+-- so the cells of a holding have room for the bodies of any
+pub rows-within : (v : Vocoder) → T (within 22 (rowsOf v))
+rows-within v = subst (λ (i : ℕ). T (within i (rowsOf v))) (sym (cell-any v)) (rows-fit v)
 
 -- what a lookup says of the type
 pub found-known : (v : FrameTable) (t : ℕ) (r : Row) → rowOf v t ≡ Found r → known v t ≡ true
@@ -77,11 +77,11 @@ found-known v t r e = ap isThere e
 pub found-size : (v : FrameTable) (t : ℕ) (r : Row) → rowOf v t ≡ Found r → size v t ≡ r .octets
 found-size v t r e = ap octetsOf e
 
-pub rows-found : (v : Vocoder) (t : ℕ) (r : Row) → rowOf (rowsOf v) t ≡ Found r → r .octets ≤ 22
-rows-found v t r e = rw (found-size (rowsOf v) t r e) at (rows-size v t)
-
 pub found-fits : (v : Vocoder) (t : ℕ) (r : Row) → rowOf (rowsOf v) t ≡ Found r → r .octets ≤ shapeOf v .cell
 found-fits v t r e = rw (found-size (rowsOf v) t r e) at (row-fits v t)
+
+pub found-small : (v : Vocoder) (t : ℕ) (r : Row) → rowOf (rowsOf v) t ≡ Found r → r .octets ≤ 255
+found-small v t r e = omega (arith, found-fits v t r e, cell-small v)
 
 -- the lowest bits of an octet
 pub all-bits : (x bits : ℕ) → x < 256 → 8 ≤ bits → x ≡ lowBits x bits

@@ -33,7 +33,7 @@ fn entry_of(vocoder: Vocoder, l: usize, n: usize, b: usize, k: usize, entries: &
 // The octets of the bodies of packet n's first b frames.
 fn bodies_size(vocoder: Vocoder, l: usize, n: usize, b: usize, entries: &[u8]) -> usize
     requires { ⌜ Picked (kindOf vocoder) l n b (now entries) ⌝ }
-    ensures { λ r. ⌜ (r ≡ length (bodiesOf (packetFrames l n b (groupIn (kindOf vocoder) (now (entries .entry)))))) × (r ≤ 22 * b) ⌝ }
+    ensures { λ r. ⌜ (r ≡ length (bodiesOf (packetFrames l n b (groupIn (kindOf vocoder) (now (entries .entry)))))) × (r ≤ 255 * b) ⌝ }
 {
     let mut size: usize = 0;
     let mut k: usize = 0;

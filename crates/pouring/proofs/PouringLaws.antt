@@ -13,10 +13,10 @@ use lib.Dec.{T}
 use Rattle.octets.specs.Octets.{over, region}
 use Rattle.octets.proofs.OctetsLaws.{over-append, over-nothing, set-over, part-is, drop-take}
 use Rattle.octets.proofs.Regions.{region-fits, length-region}
-use Rattle.frame.specs.FrameTable.{FrameTable, Frame, rowsOf, size, within}
+use Rattle.frame.specs.FrameTable.{FrameTable, Frame, size, within}
 use Rattle.frame.specs.Shape.{Voice, packetsOf, roomOf, shapeOf}
 use Rattle.frame.specs.declared.Vocoder.{Vocoder}
-use Rattle.frame.proofs.FrameTableLaws.{size-within, row-fits, cell-small}
+use Rattle.frame.proofs.FrameTableLaws.{size-within}
 use Rattle.entries.specs.Entries.{entriesOf}
 use Rattle.frame.specs.Places.{upTo, frameAt, noFrame}
 use Rattle.frame.proofs.PlacesLaws.{length-upTo, upTo-at}
@@ -49,10 +49,6 @@ body-in rs c n k z h f =
     ∙ ap (take z) (drop-take (c * k) (c * 10) xs)
     ∙ take-take z (c * 10 - c * k) (drop (c * k) xs) (omega arith)
     ∙ ap (take z) (drop-drop (c * k) (c * 10 * n) rs))
-
--- ---- bounds, of every vocoder: an entry has at most 256 octets
-pub body-small : (v : Vocoder) (t : ℕ) → size (rowsOf v) t ≤ 255
-body-small v t = omega (arith, row-fits v t, cell-small v)
 
 -- where the code finds a cell: it ends within the room, and no number on the way there is large
 module _ (v : Vocoder) (c n k : ℕ) (e : c ≡ shapeOf v .cell) (p : n < packetsOf (shapeOf v)) (q : k < 10) where

@@ -6,7 +6,7 @@ use native.Mathlib.Omega.{arith}
 use lib.ListN.{length, getD}
 use denote.Ref.{now}
 use borrow.Author.Needs.{needs}
-use Rattle.frame.proofs.FrameTableLaws.{rows-size}
+use Rattle.frame.proofs.FrameTableLaws.{body-small}
 use Rattle.frame.specs.Entry.{typeOf}
 use Rattle.entries.specs.Kind.{kindOf}
 use Rattle.frame.specs.Places.{upTo}
@@ -17,7 +17,7 @@ use Rattle.packet.proofs.bodies_size.Tie as tie
 
 abbrev Inv-loop : tie.InvT-loop
 Inv-loop vocoder l n b entries size₀ k₀ size k =
-    (k ≤ b) × (size ≤ 22 * k) × (size ≡ length (bodiesOf (packetFrames l n k (groupIn (kindOf vocoder) entries))))
+    (k ≤ b) × (size ≤ 255 * k) × (size ≡ length (bodiesOf (packetFrames l n k (groupIn (kindOf vocoder) entries))))
 
 abbrev μ-loop : tie.MeasureT-loop
 μ-loop vocoder l n b entries size₀ k₀ size k = b - k
@@ -38,7 +38,7 @@ body-size-requires c κs = search needs
 add-size : tie.Need-add-size Inv-loop μ-loop
 add-size c =
     let start = c .before .before .before .before .before .before in
-    omega (arith, c .body-size .ensures, rows-size (start .args .vocoder) (typeOf (getD (now (start .args .entries)) (c .before .before .entry-of .result) 0)), start .pre .bundle-small)
+    omega (arith, c .body-size .ensures, body-small (start .args .vocoder) (typeOf (getD (now (start .args .entries)) (c .before .before .entry-of .result) 0)), start .pre .bundle-small)
 
 add-k : tie.Need-add-k Inv-loop μ-loop
 add-k c = omega arith
@@ -55,7 +55,7 @@ loop-again c =
     let x = next-body (kindOf (start .args .vocoder)) (start .args .l) (start .args .n) (start .args .b) (at-loop .loop .k) es (groupIn (kindOf (start .args .vocoder)) es)
     (at-entry-of .entry-of .result) (c .body-size .result) (at-entry-of .entry-of .ensures) (c .body-size .ensures)
     (c .before .before .before .loop-test .taken) in
-    (omega arith, omega (arith, c .body-size .ensures, rows-size (start .args .vocoder) (typeOf (getD es (at-entry-of .entry-of .result) 0))), omega (arith, x .total))
+    (omega arith, omega (arith, c .body-size .ensures, body-small (start .args .vocoder) (typeOf (getD es (at-entry-of .entry-of .result) 0))), omega (arith, x .total))
 
 returns : tie.Need-returns Inv-loop μ-loop
 returns c =

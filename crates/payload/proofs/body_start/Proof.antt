@@ -6,7 +6,7 @@ use native.Mathlib.Omega.{arith}
 use lib.ListN.{drop, take, getD}
 use denote.Ref.{now}
 use borrow.Author.Needs.{needs}
-use Rattle.frame.proofs.FrameTableLaws.{rows-size}
+use Rattle.frame.proofs.FrameTableLaws.{body-small}
 use Rattle.frame.specs.FrameTable.{rowsOf}
 use Rattle.frame.specs.Entry.{typeOf}
 use Rattle.payload.specs.Payload.{total}
@@ -15,7 +15,7 @@ use Rattle.payload.proofs.body_start.Statement.{statement}
 use Rattle.payload.proofs.body_start.Tie as tie
 
 abbrev Inv-loop : tie.InvT-loop
-Inv-loop vocoder payload b k start₀ i₀ start i = (i ≤ k) × (start ≤ 256 + 22 * i) × (start ≡ 1 + b + total (rowsOf vocoder) (take i (map typeOf (drop 1 payload))))
+Inv-loop vocoder payload b k start₀ i₀ start i = (i ≤ k) × (start ≤ 256 + 255 * i) × (start ≡ 1 + b + total (rowsOf vocoder) (take i (map typeOf (drop 1 payload))))
 
 abbrev μ-loop : tie.MeasureT-loop
 μ-loop vocoder payload b k start₀ i₀ start i = k - i
@@ -38,7 +38,7 @@ body-size-requires c κs = search needs
 add-start-2 : tie.Need-add-start-2 Inv-loop μ-loop
 add-start-2 c =
     let start = c .before .before .before .before .before in
-    omega (arith, c .body-size .ensures, rows-size (start .args .vocoder) (typeOf (getD (now (start .args .payload)) (c .before .before .before .loop .i + 1) 0)))
+    omega (arith, c .body-size .ensures, body-small (start .args .vocoder) (typeOf (getD (now (start .args .payload)) (c .before .before .before .loop .i + 1) 0)))
 
 loop-less : tie.Need-loop-less Inv-loop μ-loop
 loop-less c = omega arith
@@ -50,7 +50,7 @@ loop-again c =
     omega (
       arith,
       c .body-size .ensures,
-      rows-size (start .args .vocoder) (typeOf (getD (now (start .args .payload)) (at-loop .loop .i + 1) 0)),
+      body-small (start .args .vocoder) (typeOf (getD (now (start .args .payload)) (at-loop .loop .i + 1) 0)),
       start-next (rowsOf (start .args .vocoder)) (now (start .args .payload)) (at-loop .loop .i) (omega arith),
     )
 

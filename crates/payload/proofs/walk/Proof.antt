@@ -5,7 +5,7 @@ use mathlib.Core.Path.{_≡_, sym, _∙_}
 use native.Mathlib.Omega.{arith}
 use lib.ListN.{length, drop}
 use borrow.Author.Needs.{needs}
-use Rattle.frame.proofs.FrameTableLaws.{rows-found}
+use Rattle.frame.proofs.FrameTableLaws.{found-small}
 use Rattle.frame.specs.FrameTable.{rowsOf}
 use Rattle.payload.specs.Shown.{walkedFrom, walked}
 use Rattle.payload.specs.Payload.{toc}
@@ -15,7 +15,7 @@ use Rattle.payload.proofs.walk.Tie as tie
 
 abbrev Inv-entries : tie.InvT-entries
 Inv-entries vocoder max-b payload max count₀ size₀ count size =
-    (count ≤ max-b) × (size ≤ 22 * count) ×
+    (count ≤ max-b) × (size ≤ 255 * count) ×
     (walkedFrom (rowsOf vocoder) count size (toc (rowsOf vocoder) max-b count (count + 1) (drop (count + 1) payload)) ≡ walked (rowsOf vocoder) (toc (rowsOf vocoder) max-b 0 1 (drop 1 payload)))
 
 abbrev μ-entries : tie.MeasureT-entries
@@ -42,7 +42,7 @@ enum-known-found c = search needs
 add-size : tie.Need-add-size Inv-entries μ-entries
 add-size c =
     let at-row-of = c .before .before .before .before in
-    omega (arith, rows-found _ _ _ (sym (at-row-of .row-of .ensures) ∙ c .before .before .found .given .1))
+    omega (arith, found-small _ _ _ (sym (at-row-of .row-of .ensures) ∙ c .before .before .found .given .1))
 
 entries-less : tie.Need-entries-less Inv-entries μ-entries
 entries-less c = omega arith
@@ -54,7 +54,7 @@ entries-again c =
     let at-if1 = at-if2 .before in
     let at-entries = at-if1 .before in
     let row = sym (at-row-of .row-of .ensures) ∙ c .before .before .before .found .given .1 in
-    (omega arith, omega (arith, rows-found _ _ _ row), sym (next _ _ _ _ _ (at-if1 .if1 .left) (at-if2 .if2 .left) _ row (c .if3 .left)) ∙ at-entries .entries .inv .2)
+    (omega arith, omega (arith, found-small _ _ _ row), sym (next _ _ _ _ _ (at-if1 .if1 .left) (at-if2 .if2 .left) _ row (c .if3 .left)) ∙ at-entries .entries .inv .2)
 
 returns : tie.Need-returns Inv-entries μ-entries
 returns c = sym (at-end _ _ _ _ _ (c .if1 .taken)) ∙ c .before .entries .inv .2

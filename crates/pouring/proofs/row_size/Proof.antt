@@ -5,8 +5,9 @@ use native.Mathlib.Omega.{arith}
 use borrow.Author.Needs.{needs}
 use Rattle.frame.proofs.FrameTableLaws.{packets-few}
 use Rattle.frame.specs.FrameTable.{rowsOf}
+use Rattle.frame.proofs.FrameTableLaws.{body-small}
 use Rattle.pouring.specs.Pouring.{rowSize}
-use Rattle.pouring.proofs.PouringLaws.{body-small, row-size-more}
+use Rattle.pouring.proofs.PouringLaws.{row-size-more}
 use Rattle.pouring.proofs.row_size.Statement.{statement}
 use Rattle.pouring.proofs.row_size.Tie as tie
 

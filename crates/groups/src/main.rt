@@ -1,14 +1,7 @@
 // Two boxes' holdings of one group, joined and poured, once for each octet of standard input (at most 65,536). Each round changes
 // a body by its octet, so that no round is the one before. Writes how many octets were poured in all, and what was poured last.
-use answers::Answer;
-use answers::Refusal;
 use answers::Written;
 use bundle::Bundle;
-use entries::Counted;
-use entries::Rule;
-use form::Form;
-use form::Limits;
-use form::Opened;
 use holding::Holding;
 use libc::STDIN_FILENO;
 use libc::STDOUT_FILENO;

@@ -1,15 +1,8 @@
 // Reads a capture from standard input and writes its recording to standard output, or the line "bad capture", with the reason on
 // standard error. Nothing is written before the whole capture is judged.
-use answers::Answer;
-use answers::Refusal;
 use answers::Written;
 use capture::Fault;
 use capture::Outcome;
-use entries::Counted;
-use entries::Rule;
-use form::Form;
-use form::Limits;
-use form::Opened;
 use libc::STDERR_FILENO;
 use libc::STDIN_FILENO;
 use libc::STDOUT_FILENO;

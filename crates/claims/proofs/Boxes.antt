@@ -1,22 +1,22 @@
 -- Boxes that each were offered a part of a group join to what one box would hold. Assumes nothing.
 use Prim.Native.Nat.{ℕ, _<_}
-use mathlib.Core.Path.{_≡_, refl, sym, ap, _∙_}
+use mathlib.Core.Path.{_≡_, refl, sym, ap, subst, _∙_}
 use mathlib.Core.List.{List, [], _∷_}
 use mathlib.Core.Bool.{Bool, true, false, cond, _||_}
 use mathlib.Core.Logic.{_⊎_, ⊎-elim, inl, inr}
 use Rattle.octets.proofs.Logic.{apart}
 use Rattle.frame.specs.Shape.{Voice, packetsOf}
-use Rattle.form.specs.declared.Form.{Form}
 use Rattle.holding.specs.declared.Holding.{Holding}
+use Rattle.session.specs.declared.Copied.{Copied}
 use Rattle.joining.proofs.Heads.{SameHead, head-group, head-trans, head-sym}
 use Rattle.knowledge.specs.Knowledge.{Known, unheard, knownOf, Among}
 use Rattle.claims.specs.Joinings.{Way, boxes, done, outcome, OneGroup, Differ, ElseTheyJoin, NothingLost, NothingInvented, EqualKnowledge}
-use Rattle.claims.specs.Demand3.{Sent, among, sentPacket, knowledge, Part}
-use Rattle.claims.specs.Boxes.{offeredTo, BoxesJoin}
+use Rattle.claims.specs.Offering.{SentGroup, among, sentPacket, knowledge, Part}
+use Rattle.claims.specs.Boxes.{offeredTo, HeardBy, CopiedOut, BoxesJoin}
 use Rattle.claims.proofs.Joinings.{some-box, done-sum, else-they-join, nothing-lost, nothing-invented, equal-knowledge}
-use Rattle.claims.proofs.Demand3.{known-as}
+use Rattle.claims.proofs.Offering.{known-as, copied-out}
 
-module _ (v : Voice) (form : Form) (g : Sent v form) where
+module _ (v : Voice) (g : SentGroup v) where
   -- a part that holds a packet knows it as it was sent
   part-held : (h : Holding) (ns : List ℕ) (n : ℕ) → knownOf v h n ≡ knowledge g ns n → knownOf v h n .held ≡ true → knownOf v h n ≡ sentPacket g n
   part-held h ns n k e = go (among n ns) k (sym (ap (λ (w : Known). w .held) k) ∙ e)
@@ -59,11 +59,11 @@ none-offered n parts (x ∷ hs) h i e =
     neither true t q = apart (cc)
     neither false t q = (refl, q)
 
-module _ (v : Voice) (form : Form) (g : Sent v form) (w : Way) (parts : Holding → List ℕ) (p : (h : Holding) → Among h (boxes w) → Part h g (parts h)) where
+module _ (v : Voice) (g : SentGroup v) (w : Way) (parts : Holding → List ℕ) (p : (h : Holding) → Among h (boxes w) → Part h g (parts h)) where
   one-group : OneGroup v (boxes w)
   one-group = record {
     each = λ h i. p h i .box;
-    same = λ a b i j. head-group a b (same-head v form g a b (parts a) (parts b) (p a i) (p b j));
+    same = λ a b i j. head-group a b (same-head v g a b (parts a) (parts b) (p a i) (p b j));
   }
 
   none-differ : (a b : Holding) → Among a (boxes w) → Among b (boxes w) → Differ v a b → ⊥
@@ -71,7 +71,7 @@ module _ (v : Voice) (form : Form) (g : Sent v form) (w : Way) (parts : Holding 
       d .unlike (as-sent a i (d .first) ∙ sym (as-sent b j (d .second)))
     where
       as-sent : (h : Holding) → Among h (boxes w) → knownOf v h (d .packet) .held ≡ true → knownOf v h (d .packet) ≡ sentPacket g (d .packet)
-      as-sent h k e = part-held v form g h (parts h) (d .packet) (p h k .knows (d .packet) (d .below)) e
+      as-sent h k e = part-held v g h (parts h) (d .packet) (p h k .knows (d .packet) (d .below)) e
 
   -- what is known of all: the packets that some box was offered
   knows-all : (all : Holding) → outcome v w ≡ done all → (n : ℕ) → n < packetsOf (v .shape) → knownOf v all n ≡ cond (offeredTo n parts (boxes w)) (sentPacket g n) unheard
@@ -87,17 +87,25 @@ module _ (v : Voice) (form : Form) (g : Sent v form) (w : Way) (parts : Holding 
           let o = nothing-invented v w one-group all q n k in
           sym (o .knows) ∙ p (o .box) (o .is-in) .knows n k ∙ known-as g n (none-offered n parts (boxes w) (o .box) (o .is-in) e)
 
+-- the holding copied out of a session that holds exactly a part is that part
+heard-part : (v : Voice) (g : SentGroup v) (h : Holding) (ns : List ℕ) → HeardBy v g h ns → Part h g ns
+unfolding CopiedOut
+heard-part v g h ns x =
+    let e : x .session .group ≡ h = ap (λ (c : Copied). c .holding) (sym (copied-out v (x .form) (x .session) (x .sent) ns (x .exactly)) ∙ x .copied-out) in
+    subst (λ (k : SentGroup v). Part h k ns) (x .same-group) (subst (λ (k : Holding). Part k (x .sent .group) ns) e (x .exactly .part))
+
 pub boxes-join : BoxesJoin
 unfolding BoxesJoin ElseTheyJoin EqualKnowledge
-boxes-join v m form g w parts p one all x c =
-    let j = else-they-join v m w (one-group v form g w parts p) (none-differ v form g w parts p) in
+boxes-join v m g w parts heard one all x c =
+    let p : (h : Holding) → Among h (boxes w) → Part h g (parts h) = λ h i. heard-part v g h (parts h) (heard h i) in
+    let j = else-they-join v m w (one-group v g w parts p) (none-differ v g w parts p) in
     let h = j .all in
-    let s = done-sum v w (one-group v form g w parts p) h (j .is) in
+    let s = done-sum v w (one-group v g w parts p) h (j .is) in
     let b = some-box w in
-    let y = x .part in
-    let hd : SameHead h (one .group) =
-    head-trans h (b .box) (one .group) (head-sym (b .box) h (s .one-group (b .box) (b .is-in))) (same-head v form g (b .box) (one .group) (parts (b .box)) all (p (b .box) (b .is-in)) y) in
+    let y = heard-part v g one all x in
+    let hd : SameHead h one =
+    head-trans h (b .box) one (head-sym (b .box) h (s .one-group (b .box) (b .is-in))) (same-head v g (b .box) one (parts (b .box)) all (p (b .box) (b .is-in)) y) in
     j .is
     ∙ ap done
-    (equal-knowledge v m h (one .group) (s .whole) (y .box) (head-group h (one .group) hd)
-    (λ n k. knows-all v form g w parts p h (j .is) n k ∙ known-as g n (sym (c n k)) ∙ sym (y .knows n k)))
+    (equal-knowledge v m h one (s .whole) (y .box) (head-group h one hd)
+    (λ n k. knows-all v g w parts p h (j .is) n k ∙ known-as g n (sym (c n k)) ∙ sym (y .knows n k)))

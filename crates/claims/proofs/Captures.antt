@@ -11,8 +11,7 @@ use Rattle.answers.specs.Outputs.{octets}
 use Rattle.frame.specs.Places.{upTo}
 use Rattle.form.specs.declared.Form.{Form}
 use Rattle.pouring.specs.Pouring.{inTime}
-use Rattle.numbers.specs.Place.{decided}
-use Rattle.session.specs.Session.{neverOpened, fresh, vacant, formRight, isOpen, refuse, groupBefore, received, offered, pourMade}
+use Rattle.session.specs.Session.{neverOpened, fresh, vacant, formRight, isOpen, refuse, received, offered, pourMade}
 use Rattle.session.specs.declared.Session.{Session}
 use Rattle.session.specs.declared.Taken.the-variants.{Accepted}
 use Rattle.answers.specs.declared.Refusal.the-variants.{AnotherSource, NotApplicable}
@@ -24,12 +23,11 @@ use Rattle.capture.proofs.RunLaws.{table-fits, table-erases}
 use Rattle.capture.proofs.Largest.{step-source}
 use Rattle.capture.proofs.RunLaws.{largest-is}
 use Rattle.capture.proofs.CaptureLaws.{good-means}
-use Rattle.claims.specs.Demand3.{Demand3, Sent, sentNumbers, Ready, offerOne, offerAll, AllAccepted}
+use Rattle.claims.specs.Offering.{Sent, sentNumbers, FreshIsReady, offerOne, offerAll, AllAccepted, OffersDeliver}
 use Rattle.claims.specs.Sessions.{lostBefore}
 use Rattle.claims.specs.Captures.{heardOf, GroupIsRecorded, fromSource, FirstSourceAlone, OthersAreNotHeard, NoPacketGivesOpening}
 use Rattle.claims.specs.Captures.{NothingIsLarger, CaptureExactlyIf}
-use Rattle.claims.proofs.Demand3.{demand-3}
-use Rattle.claims.proofs.Sessions.{fresh-open}
+use Rattle.claims.proofs.Offering.{fresh-is-ready, offers-deliver}
 
 -- ---- another source leaves no trace
 other-step : (kind : Kind) (s : Session) (h : Heard) → eqb (h .source) (s .source) ≡ false → stepOf kind s h ≡ record { session = s; octets = [] }
@@ -92,36 +90,22 @@ unfolding runOf andThen offerAll AllAccepted offeredTo
 all-taken kind g s [] x = refl
 all-taken kind g s (n ∷ ns) x = rw (taken-step kind s (heardOf g n) (x .0)) (all-taken kind g (offerOne s g n .session) ns (x .1))
 
--- a session that takes the group's source is ready for it
-first-ready : {v : Voice} (g : Sent v captureForm) → Ready (fresh (v .shape) (g .source) captureForm) g
-unfolding fresh vacant captureForm formRight groupBefore decided
-first-ready {v} g = record {
-  opened = fresh-open v (g .source) captureForm refl;
-  for-source = refl;
-  in-form = refl;
-  vacant = nothing-is (v .shape);
-  reported = 0;
-  would-begin = simp (nothing-is (v .shape));
-}
-
 accepted-as : {v : Voice} {form : Form} (g : Sent v form) (s : Session) (m k : ℕ) (ns : List ℕ) → m ≡ k → AllAccepted s g m ns → AllAccepted s g k ns
 accepted-as g s m k ns e x = rw (← e) x
 
 pub group-is-recorded : GroupIsRecorded
-unfolding GroupIsRecorded Demand3 captureRecording entriesRecorded andThen firstSession pouring pouredOf fresh vacant
+unfolding GroupIsRecorded FreshIsReady OffersDeliver captureForm formRight captureRecording entriesRecorded andThen firstSession pouring pouredOf fresh vacant
 group-is-recorded kind r g n ns h c e =
-    let s = fresh holdingShape (g .source) captureForm in
-    let d = demand-3 (voiceWith (kind .table)) r captureForm g s (first-ready g) n ns h in
+    let s = fresh holdingShape (g .group .source) captureForm in
+    let d = offers-deliver (voiceWith (kind .table)) r captureForm g s (fresh-is-ready _ captureForm refl _ _) n ns h in
     let t = offerAll s g (n ∷ ns) in
-    let z : lostBefore holdingShape s (sentNumbers g) ≡ 0 = simp (nothing-is holdingShape) in
-    let x = accepted-as g s (lostBefore holdingShape s (sentNumbers g)) 0 (n ∷ ns) z (d .accepted) in
+    let z : lostBefore holdingShape s (sentNumbers (g .group)) ≡ 0 = simp (nothing-is holdingShape) in
+    let x = accepted-as g s (lostBefore holdingShape s (sentNumbers (g .group))) 0 (n ∷ ns) z (d .accepted) in
     let y = all-taken kind g s (n ∷ ns) x in
     record {
       frames = inTime (voiceWith (kind .table)) (t .group);
       behind-opening = rw (e, y, d .poured);
-      count = d .places .count;
-      original = d .places .original;
-      erased = d .places .erased;
+      places = d .places;
     }
 
 pub capture-exactly-if : CaptureExactlyIf

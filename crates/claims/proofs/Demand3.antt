@@ -1,375 +1,188 @@
--- Demand 3. Assumes nothing.
-use Prim.Native.Nat.{ℕ, _+_, _-_, _*_, _%_, _≤_, _<_}
+-- Demand 3, from end to end. Assumes nothing.
+use Prim.Native.Nat.{ℕ, _+_, _*_, _≤_, zero-le}
 use mathlib.Core.Path.{_≡_, refl, sym, ap, ap₂, subst, _∙_}
-use mathlib.Core.List.{List, [], _∷_}
-use mathlib.Core.Bool.{Bool, true, false, cond, _&&_, _||_}
-use native.Mathlib.Omega.{arith}
-use lib.Dec.{eqb}
-use lib.ListN.{length}
-use borrow.Author.Tests.{eq-eqb, eqb-true, eqb-false}
-use Rattle.octets.proofs.Logic.{both-true}
-use Rattle.frame.specs.FrameTable.{Frame, AllListed, Listed}
-use Rattle.frame.specs.Shape.{Voice, packetsOf}
-use Rattle.frame.specs.Places.{frameAt}
-use Rattle.form.specs.declared.Form.{Form}
-use Rattle.answers.specs.declared.Refusal.the-variants.{PacketDiffers}
-use Rattle.payload.specs.Payload.{packet, readAs}
-use Rattle.packet.specs.Packet.{placeOf, packetFrames}
-use Rattle.packet.proofs.Packing.{length-packet, packet-at, packet-every}
-use Rattle.numbers.specs.Bases.{minus, baseSequence, baseTimestamp}
-use Rattle.numbers.specs.Place.{differ, atDistance, withHeld, decided}
-use Rattle.numbers.specs.declared.GroupNumbers.{GroupNumbers}
-use Rattle.holding.specs.Group.{isNothing, begun, numbersOf, heldAt, bundleAt, withPacket}
-use Rattle.bundle.specs.Bundles.{sameBundles}
-use Rattle.bundle.specs.LaidOut.{laid}
-use Rattle.holding.specs.declared.Holding.{Holding}
-use Rattle.pouring.specs.Pouring.{inTime}
-use Rattle.knowledge.specs.Knowledge.{Box, Known, unheard, told, knownOf, frameKnown}
-use Rattle.holding.proofs.GroupLaws.{holds-sound, sound-something}
-use Rattle.knowledge.proofs.Cells.{Cell, cell}
-use Rattle.knowledge.proofs.JoinLaws.{box-sound}
-use Rattle.knowledge.proofs.KnowledgeLaws.{known-held, cellFor, cell-known}
-use Rattle.knowledge.proofs.PacketLaws.{packets-refl}
-use Rattle.knowledge.proofs.PutLaws.{Keeps, with-head, put-box, put-knows, put-others, begun-keeps, begun-lost}
-use Rattle.session.specs.Session.{formRight, lastRight, groupRight, isOpen, accept, refuse, withGroup, pourMade, copied, groupBefore}
-use Rattle.session.specs.Session.{begins, belongs, placedBy, placed, arrival, judged, received, offered}
-use Rattle.session.specs.declared.Session.{Session}
-use Rattle.session.specs.declared.Offered.{Offered}
-use Rattle.session.specs.declared.Arrival.{Arrival}
-use Rattle.session.specs.declared.Taken.the-variants.{Accepted}
-use Rattle.answers.specs.Outputs.{octets}
+use mathlib.Core.List.{List, [], _∷_, _++_}
+use mathlib.Core.Bool.{Bool, true, false, cond}
+use lib.Dec.{leb}
+use lib.ListN.{length, take, drop}
+use lib.Seq.{take-at}
+use borrow.Author.Tests.{le-leb}
+use Rattle.octets.proofs.Logic.{apart}
+use Rattle.answers.specs.Outputs.{Made, octets, refusedOutput, writtenOf, outAfter, Writes}
+use Rattle.answers.specs.declared.Refusal.the-variants.{NoRoom}
+use Rattle.answers.specs.declared.Written.{Written}
+use Rattle.answers.specs.declared.Written.the-variants as written
 use Rattle.entries.specs.Entries.{entriesOf}
-use Rattle.claims.specs.Joinings.{HasRoom, EveryPlaceInTime}
-use Rattle.claims.specs.Sessions.{lostBefore, LostFramesByFormula, bodyOctets}
-use Rattle.claims.specs.Demand3.{Sent, sentNumbers, offerOne, offerAll, AllAccepted, Ready, Within, among, sentPacket, knowledge, HoldsExactly}
-use Rattle.claims.specs.Demand3.{PouredPlaces, Demand3, OfGroup, Part}
-use Rattle.claims.specs.Boxes.{CopiedOut}
-use Rattle.claims.proofs.Joinings.{every-place-in-time}
-use Rattle.claims.proofs.Sessions.{lost-frames-by-formula, entries-length}
+use Rattle.entries.specs.Kind.{kindOf}
+use Rattle.form.specs.Agreed.{vocoderOf, voiceFor}
+use Rattle.form.specs.declared.Form.{Form}
+use Rattle.form.specs.declared.Form.the-variants.{Interleaved}
+use Rattle.frame.specs.FrameTable.{Frame}
+use Rattle.frame.specs.Shape.{Voice}
+use Rattle.packet.specs.Writing.{packetMade}
+use Rattle.pouring.specs.Pouring.{inTime}
+use Rattle.numbers.specs.declared.GroupNumbers.{GroupNumbers}
+use Rattle.session.specs.Session.{refuse, accept, withGroup, begins, arrival, offered}
+use Rattle.session.specs.declared.Session.{Session}
+use Rattle.session.specs.declared.Arrival.{Arrival}
+use Rattle.session.specs.declared.Offered.{Offered}
+use Rattle.session.proofs.Ends.{Placed, Ends, offer-ends}
+use Rattle.session.proofs.Ends as ends
+use Rattle.claims.specs.Call.{Build}
+use Rattle.claims.specs.Calls.Packet as packet
+use Rattle.claims.specs.Calls.Session as session
+use Rattle.claims.specs.Packets.{KindsPass}
+use Rattle.claims.specs.Sessions.{lostBefore, bodyOctets}
+use Rattle.claims.specs.Offering.{Sent, sentNumbers, numbered, stamped, offerOne, offerAll, AllAccepted, Ready, Within, PouredPlaces, Delivered, OffersDeliver}
+use Rattle.claims.specs.Sending.{AdmitsIn, SentSo, WriterSends, WriterSendsNoErasure, TablesNeverSendErasures}
+use Rattle.claims.specs.Missing.{OneMissing, NoErasure, Spread, OneMissingPacket}
+use Rattle.claims.specs.Demand3.{WrittenGroup, originals, offerThrough, offerAllThrough, AcceptedThrough, PouredThrough, Demand3}
+use Rattle.claims.proofs.Joinings.{voices-have-room}
+use Rattle.claims.proofs.PacketsBack.{kinds-pass}
+use Rattle.claims.proofs.Offering.{offers-deliver}
+use Rattle.claims.proofs.Sending.{writer-sends, writer-sends-no-erasure, tables-never-send-erasures}
+use Rattle.claims.proofs.Missing.{one-missing-packet}
+use Rattle.claims.proofs.Builds.{writes-so, offers-so, pours-so}
 
--- ---- the base numbers of a packet that was numbered and stamped
-base-back : (s n : ℕ) → s < 65536 → baseSequence ((s + n) % 65536) n ≡ s
-base-back s n h = omega arith
+-- ---- what a writer wrote is what was to be written
+pub wrote-made : (made : Made) (out : List ℕ) (r : Written) (after w : List ℕ) → Writes made out r after → r ≡ written.Octets (length w) → take (length w) after ≡ w → made ≡ octets w
+unfolding writtenOf outAfter
+wrote-made (refusedOutput s) out r after w p c f = let z : written.Refused s ≡ written.Octets (length w) = sym (p .answer) ∙ c in apart (cc)
+wrote-made (octets u) out r after w p c f = go (leb (length u) (length out)) (sym (p .answer) ∙ c) (p .output)
+  where
+    same : {a b : ℕ} → written.Octets a ≡ written.Octets b → a ≡ b
+    same q = cc
 
-time-back : (t n : ℕ) → t < 4294967296 → baseTimestamp ((t + 160 * n) % 4294967296) n ≡ t
-time-back t n h = omega arith
+    go : (t : Bool) → cond t (written.Octets (length u)) (written.Refused NoRoom) ≡ written.Octets (length w) → after ≡ cond t (u ++ drop (length u) out) out → octets u ≡ octets w
+    go false x y = apart (cc)
+    go true x y =
+        let e : length u ≡ length w = same x in
+        ap octets (sym (take-at u (drop (length u) out) (length w) e) ∙ ap (take (length w)) (sym y) ∙ f)
 
-no-distance : (a : ℕ) → a < 65536 → minus 16 a a ≡ 0
-no-distance a h = omega arith
+-- what is written where there is room
+pub written-room : (w out : List ℕ) (r : Written) (after : List ℕ) → Writes (octets w) out r after → length w ≤ length out →
+    (r ≡ written.Octets (length w)) × (after ≡ w ++ drop (length w) out)
+unfolding writtenOf outAfter
+written-room w out r after p h =
+    let z : leb (length w) (length out) ≡ true = le-leb (length w) (length out) h in
+    (p .answer ∙ ap (λ (t : Bool). cond t (written.Octets (length w)) (written.Refused NoRoom)) z, p .output ∙ ap (λ (t : Bool). cond t (w ++ drop (length w) out) out) z)
 
--- what is known of packet n goes by whether it was offered
-pub known-as : {v : Voice} {form : Form} (g : Sent v form) (n : ℕ) {s t : Bool} → s ≡ t → cond s (sentPacket g n) unheard ≡ cond t (sentPacket g n) unheard
-known-as g n e = ap (λ (t : Bool). cond t (sentPacket g n) unheard) e
+-- ---- an offer keeps the session's form
+placed-form : (v : Voice) (s : Session) (a : Arrival) (o : Offered) → Placed (v .shape) s a o → o .session .form ≡ s .form
+unfolding refuse accept withGroup begins
+placed-form v s a o (ends.no r e) = ap (λ (x : Offered). x .session .form) e
+placed-form v s a o (ends.again q e) = ap (λ (x : Offered). x .session .form) e
+placed-form v s a o (ends.put q l b e) = ap (λ (x : Offered). x .session .form) e
+placed-form v s a o (ends.first q p e) = ap (λ (x : Offered). x .session .form) e
+placed-form v s a o (ends.next q p lost f h e) = ap (λ (x : Offered). x .session .form) e
 
--- ---- a packet is offered
-module _ (v : Voice) (s : Session) (source sequence timestamp l n d : ℕ) (fs : List Frame) (p : List ℕ) where
-  offer-read : isOpen v s ≡ true → s .source ≡ source → readAs (v .table) (s .form) p ≡ packet l n d fs
-      → offered v s source sequence timestamp p ≡ placed (v .shape) s (arrival (v .shape) sequence timestamp l n fs)
-  unfolding offered received judged
-  offer-read o e r = simp (o, eq-eqb source (s .source) (sym e), r)
+keeps-form : (v : Voice) (s : Session) (source sequence timestamp : ℕ) (p : List ℕ) → offered v s source sequence timestamp p .session .form ≡ s .form
+unfolding refuse
+keeps-form v s source sequence timestamp p = go _ (offer-ends v s source sequence timestamp p)
+  where
+    go : (o : Offered) → Ends v s source sequence timestamp p o → o .session .form ≡ s .form
+    go o (ends.refuses r e) = ap (λ (x : Offered). x .session .form) e
+    go o (ends.places i j l n d fs q x) = placed-form v s (arrival (v .shape) sequence timestamp l n fs) o x
 
--- ---- a holding that holds a packet is not that of nothing
-pub some-held : (v : Voice) (h : Holding) → Box v h → isNothing (v .shape) h ≡ false
-some-held v h x = sound-something v h (box-sound v h x)
+-- ---- packets offered through a build are those that were sent
+module _ {write : Build packet.write} (offer : Build session.offer) (g : WrittenGroup write) (form : Form) (t : Sent (voiceFor form) form)
+    (same-source : t .group .source ≡ g .source) (same-numbers : sentNumbers (t .group) ≡ g .numbers) (same-payload : (n : ℕ) → t .payload n ≡ g .payload n) where
+  one-through : (s : Session) → s .form ≡ form → (n : ℕ) → offerThrough offer g s n ≡ offerOne s t n
+  one-through s f n =
+      offers-so offer s (g .source) (numbered (g .numbers) n) (stamped (g .numbers) n) (g .payload n)
+      ∙ ap (λ (x : Form). offered (voiceFor x) s (g .source) (numbered (g .numbers) n) (stamped (g .numbers) n) (g .payload n)) f
+      ∙ ap (λ (x : ℕ). offered (voiceFor form) s x (numbered (g .numbers) n) (stamped (g .numbers) n) (g .payload n)) (sym same-source)
+      ∙ ap (λ (x : GroupNumbers). offered (voiceFor form) s (t .group .source) (numbered x n) (stamped x n) (g .payload n)) (sym same-numbers)
+      ∙ ap (offered (voiceFor form) s (t .group .source) (numbered (sentNumbers (t .group)) n) (stamped (sentNumbers (t .group)) n)) (sym (same-payload n))
 
--- ---- a session with another group held stays open
-open-with : (v : Voice) (s : Session) (h : Holding) → isOpen v s ≡ true → Box v h → h .source ≡ s .source → isOpen v (withGroup s h) ≡ true
-unfolding isOpen withGroup groupRight lastRight
-open-with v s h o x e =
-    let p = both-true (s .«open») (formRight (s .form) && (lastRight (v .shape) s && groupRight v s)) o in
-    let q = both-true (formRight (s .form)) (lastRight (v .shape) s && groupRight v s) (p .1) in
-    let r = both-true (lastRight (v .shape) s) (groupRight v s) (q .1) in
-    simp (p .0, q .0, r .0, some-held v h x, x .some, eq-eqb (h .source) (s .source) e)
+  through : (s : Session) → s .form ≡ form → (lost : ℕ) (ns : List ℕ) → AllAccepted s t lost ns →
+      AcceptedThrough offer g s lost ns × (offerAllThrough offer g s ns ≡ offerAll s t ns)
+  unfolding AllAccepted AcceptedThrough offerAllThrough offerAll
+  through s f lost [] x = (tt, refl)
+  through s f lost (n ∷ ns) x =
+      let e = one-through s f n in
+      let u : offerThrough offer g s n .session ≡ offerOne s t n .session = ap (λ (y : Offered). y .session) e in
+      let rest = through (offerOne s t n .session) (keeps-form (voiceFor form) s (t .group .source) _ _ (t .payload n) ∙ f) 0 ns (x .1) in (
+        (ap (λ (y : Offered). y .answer) e ∙ x .0, subst (λ (y : Session). AcceptedThrough offer g y 0 ns) (sym u) (rest .0)),
+        ap (λ (y : Session). offerAllThrough offer g y ns) u ∙ rest .1,
+      )
 
--- the packets offered, named in another order
-exactly-as : {v : Voice} {form : Form} (s : Session) (g : Sent v form) (ds es : List ℕ) → ((i : ℕ) → among i ds ≡ among i es) → HoldsExactly s g ds → HoldsExactly s g es
-exactly-as s g ds es h x =
-    record {
-      still-open = x .still-open;
-      for-source = x .for-source;
-      in-form = x .in-form;
-      part = record {
-        box = x .part .box;
-        of-group = x .part .of-group;
-        knows = λ i k. x .part .knows i k ∙ known-as g i (h i);
-      };
-    }
-
--- what one more offer does
-record OneMore {v : Voice} {form : Form} (s : Session) (g : Sent v form) (n : ℕ) (ds : List ℕ) : Type 0 where
-  told : offerOne s g n .answer ≡ Accepted 0
-  after : HoldsExactly (offerOne s g n .session) g (n ∷ ds)
-
--- ---- packet n is offered to a session that holds the group
-module _ (v : Voice) (m : HasRoom v) (form : Form) (g : Sent v form) (n : ℕ) (le : n ≤ g .l) where
-  abbrev ours : List Frame
-  ours = packetFrames (g .l) n (g .b) (g .frames)
-
-  abbrev numbered : ℕ
-  numbered = (g .sequence + n) % 65536
-
-  abbrev stamped : ℕ
-  stamped = (g .timestamp + 160 * n) % 4294967296
-
-  small : n < packetsOf (v .shape)
-  small = omega (arith, g .low)
-
-  ours-many : length ours ≡ g .b
-  ours-many = length-packet (g .l) n (g .b) (g .frames)
-
-  ours-listed : AllListed (v .table) ours
-  ours-listed = packet-every (Listed (v .table)) (g .l) n (g .b) (g .frames) (g .listed) le (omega (arith, g .many))
-
-  base-is : baseSequence numbered n ≡ g .sequence
-  base-is = base-back (g .sequence) n (g .sequence-fits)
-
-  time-is : baseTimestamp stamped n ≡ g .timestamp
-  time-is = time-back (g .timestamp) n (g .timestamp-fits)
-
-  -- packet n put into a holding with the group's numbers that knows these packets
-  put-part : (h : Holding) → Keeps v h → OfGroup h g → (ds : List ℕ) → ((i : ℕ) → i < packetsOf (v .shape) → knownOf v h i ≡ knowledge g ds i)
-      → Part (withPacket (v .shape) h n (laid (v .shape) ours)) g (n ∷ ds)
-  put-part h k o ds kn =
-      let hd = with-head (v .shape) h n (laid (v .shape) ours) in
-      record {
-        box = put-box v (m .short) (m .erasing) h k n in-h ours many-h ours-listed;
-        of-group = record {
-          of-source = hd .source ∙ o .of-source;
-          base = hd .sequence ∙ o .base;
-          time = hd .timestamp ∙ o .time;
-          same-length = hd .l ∙ o .same-length;
-          same-bundle = hd .b ∙ o .same-bundle;
-        };
-        knows = λ i l. go i l (eqb i n) refl;
-      }
-    where
-      in-h : n ≤ h .l
-      in-h = omega (arith, o .same-length)
-
-      many-h : length ours ≡ h .b
-      many-h = ours-many ∙ sym (o .same-bundle)
-
-      go : (i : ℕ) → i < packetsOf (v .shape) → (t : Bool) → eqb i n ≡ t → knownOf v (withPacket (v .shape) h n (laid (v .shape) ours)) i ≡ cond (t || among i ds) (sentPacket g i) unheard
-      go i l true e =
-          let q : i ≡ n = eqb-true i n e in
-          subst (λ (j : ℕ). knownOf v (withPacket (v .shape) h n (laid (v .shape) ours)) j ≡ sentPacket g j) (sym q)
-          (put-knows v (m .short) (m .erasing) h k n in-h ours many-h ours-listed (sentPacket g n) refl refl)
-      go i l false e = put-others v (m .short) (m .erasing) h k n in-h ours many-h ours-listed i (eqb-false i n e) ∙ kn i l
-
-  -- what becomes of it: the same again, or put in
-  module _ (s : Session) (ds : List ℕ) (x : HoldsExactly s g ds) where
-    in-place : offerOne s g n ≡ belongs (v .shape) s (arrival (v .shape) numbered stamped (g .l) n ours)
-    unfolding placed groupBefore decided withHeld atDistance differ numbersOf placedBy arrival
-    in-place =
-        let h = s .group in
-        let o = x .part .of-group in
-        let r : readAs (v .table) (s .form) (g .payload n) ≡ packet (g .l) n (g .d n) ours = rw (x .in-form) (g .read n le) in
-        let z : minus 16 (baseSequence numbered n) (h .sequence) ≡ 0 = rw (base-is, o .base) (no-distance (g .sequence) (g .sequence-fits)) in
-        let same-l = eq-eqb (g .l) (h .l) (sym (o .same-length)) in
-        let same-b = eq-eqb (length ours) (h .b) (ours-many ∙ sym (o .same-bundle)) in
-        let same-time = eq-eqb (baseTimestamp stamped n) (h .timestamp) (time-is ∙ sym (o .time)) in
-        offer-read v s (g .source) numbered stamped (g .l) n (g .d n) ours (g .payload n) (x .still-open) (x .for-source) r
-        ∙ simp (some-held v h (x .part .box), z, same-l, same-b, same-time)
-
-    by-held :
-        belongs (v .shape) s (arrival (v .shape) numbered stamped (g .l) n ours)
-        ≡ cond (heldAt (s .group) n) (cond (sameBundles (bundleAt (v .shape) (s .group) n) (laid (v .shape) ours)) (accept s 0) (refuse s PacketDiffers))
-        (accept (withGroup s (withPacket (v .shape) (s .group) n (laid (v .shape) ours))) 0)
-    unfolding belongs arrival
-    by-held = refl
-
-    -- held already
-    again : among n ds ≡ true → offerOne s g n ≡ accept s 0
-    unfolding cell
-    again e =
-        let c : cell (v .shape) (s .group) n ≡ cellFor (v .shape) (sentPacket g n) =
-        cell-known v (m .short) (m .erasing) (s .group) (x .part .box) n small ∙ ap (cellFor (v .shape)) (x .part .knows n small ∙ known-as g n e) in
-        let t : heldAt (s .group) n ≡ true = ap (λ (y : Cell). y .0) c in
-        let p : bundleAt (v .shape) (s .group) n ≡ laid (v .shape) ours = ap (λ (y : Cell). y .1) c in
-        let q : sameBundles (bundleAt (v .shape) (s .group) n) (laid (v .shape) ours) ≡ true = rw p (packets-refl (laid (v .shape) ours)) in
-        in-place ∙ by-held ∙ rw (t, q)
-
-    -- not held yet
-    added : among n ds ≡ false → offerOne s g n ≡ accept (withGroup s (withPacket (v .shape) (s .group) n (laid (v .shape) ours))) 0
-    added e =
-        let t : heldAt (s .group) n ≡ false = sym (known-held v (s .group) n) ∙ ap (λ (k : Known). k .held) (x .part .knows n small ∙ known-as g n e) in
-        in-place ∙ by-held ∙ rw t
-
-    -- ---- the session after it
-    after-put : HoldsExactly (withGroup s (withPacket (v .shape) (s .group) n (laid (v .shape) ours))) g (n ∷ ds)
-    unfolding withGroup
-    after-put =
-        let h = s .group in
-        let q = put-part h (record { shaped = x .part .box .shaped; rule = holds-sound v h (x .part .box .some) .0 }) (x .part .of-group) ds (x .part .knows) in
-        record {
-          still-open = open-with v s (withPacket (v .shape) h n (laid (v .shape) ours)) (x .still-open) (q .box) (q .of-group .of-source ∙ sym (x .for-source));
-          for-source = x .for-source;
-          in-form = x .in-form;
-          part = q;
-        }
-
-    after-again : among n ds ≡ true → HoldsExactly s g (n ∷ ds)
-    after-again e = exactly-as s g ds (n ∷ ds) (λ i. go i (eqb i n) refl) x
-      where
-        go : (i : ℕ) (t : Bool) → eqb i n ≡ t → among i ds ≡ t || among i ds
-        go i true q = ap (λ (j : ℕ). among j ds) (eqb-true i n q) ∙ e
-        go i false q = refl
-
-    -- one more offer
-    step : OneMore s g n ds
-    unfolding accept
-    step = go (among n ds) refl
-      where
-        go : (t : Bool) → among n ds ≡ t → OneMore s g n ds
-        go true e =
-            let o = again e in
-            record { told = ap (λ (y : Offered). y .answer) o; after = subst (λ (y : Session). HoldsExactly y g (n ∷ ds)) (sym (ap (λ (y : Offered). y .session) o)) (after-again e) }
-        go false e =
-            let o = added e in
-            record { told = ap (λ (y : Offered). y .answer) o; after = subst (λ (y : Session). HoldsExactly y g (n ∷ ds)) (sym (ap (λ (y : Offered). y .session) o)) after-put }
-
--- ---- one after the other
-abbrev spread : List ℕ → List ℕ → List ℕ
-spread ds [] = ds
-spread ds (n ∷ ns) = spread (n ∷ ds) ns
-
-record More {v : Voice} {form : Form} (s : Session) (g : Sent v form) (ds ns : List ℕ) : Type 0 where
-  told : AllAccepted s g 0 ns
-  after : HoldsExactly (offerAll s g ns) g (spread ds ns)
-
-offers : (v : Voice) → HasRoom v → (form : Form) (g : Sent v form) (s : Session) (ds ns : List ℕ) → HoldsExactly s g ds → Within (g .l) ns → More s g ds ns
-unfolding AllAccepted offerAll
-offers v m form g s ds [] x w = record { told = tt; after = x }
-offers v m form g s ds (n ∷ ns) x w =
-    let o = step v m form g n (w .0) s ds x in
-    let r = offers v m form g (offerOne s g n .session) (n ∷ ds) ns (o .after) (w .1) in
-    record { told = (o .told, r .told); after = r .after }
-
--- ---- the first packet begins the group
-record First {v : Voice} {form : Form} (s : Session) (g : Sent v form) (n : ℕ) : Type 0 where
-  told : offerOne s g n .answer ≡ Accepted (lostBefore (v .shape) s (sentNumbers g))
-  after : HoldsExactly (offerOne s g n .session) g (n ∷ [])
-
-module _ (v : Voice) (m : HasRoom v) (form : Form) (g : Sent v form) (n : ℕ) (le : n ≤ g .l) (s : Session) (y : Ready s g) where
-  abbrev mine : List Frame
-  mine = packetFrames (g .l) n (g .b) (g .frames)
-
-  abbrev none : Holding
-  none = begun (v .shape) (g .source) (sentNumbers g)
-
-  abbrev first : Holding
-  first = withPacket (v .shape) none n (laid (v .shape) mine)
-
-  abbrev came : Arrival
-  came = arrival (v .shape) ((g .sequence + n) % 65536) ((g .timestamp + 160 * n) % 4294967296) (g .l) n mine
-
-  came-numbers : came .numbers ≡ sentNumbers g
-  unfolding arrival
-  came-numbers = same (base-is v m form g n le) (time-is v m form g n le) (ours-many v m form g n le)
-    where
-      same : {q q′ t t′ l b b′ : ℕ} → q ≡ q′ → t ≡ t′ → b ≡ b′
-          → _≡_ {A = GroupNumbers} (record { sequence = q; timestamp = t; l = l; b = b }) (record { sequence = q′; timestamp = t′; l = l; b = b′ })
-      same i j k = cc
-
-  was-read : readAs (v .table) (s .form) (g .payload n) ≡ packet (g .l) n (g .d n) mine
-  was-read = rw (y .in-form) (g .read n le)
-
-  begun-first : offerOne s g n ≡ begins (v .shape) s came (y .reported)
-  unfolding placed placedBy
-  begun-first =
-      offer-read v s (g .source) _ _ (g .l) n (g .d n) mine (g .payload n) (y .opened) (y .for-source) was-read
-      ∙ ap (placedBy (v .shape) s came) (ap (decided (groupBefore (v .shape) s)) came-numbers ∙ y .would-begin)
-
-  begins-so : (k : ℕ) → begins (v .shape) s came k ≡ accept (withGroup s first) k
-  unfolding begins arrival
-  begins-so k = rw (y .for-source, base-is v m form g n le, time-is v m form g n le, ours-many v m form g n le)
-
-  reported-is : y .reported ≡ lostBefore (v .shape) s (sentNumbers g)
-  unfolding LostFramesByFormula accept
-  reported-is =
-      let told : offerOne s g n .answer ≡ Accepted (y .reported) = ap (λ (z : Offered). z .answer) (begun-first ∙ begins-so (y .reported)) in
-      lost-frames-by-formula v s (g .source) _ _ (g .payload n) (g .l) n (g .d n) mine was-read (y .reported) told ∙ ap (lostBefore (v .shape) s) came-numbers
-
-  none-known : (i : ℕ) → i < packetsOf (v .shape) → knownOf v none i ≡ unheard
-  unfolding knownOf told
-  none-known i k = rw (begun-lost v (g .source) (sentNumbers g) i k)
-
-  none-of : OfGroup none g
-  unfolding begun
-  none-of = record { of-source = refl; base = refl; time = refl; same-length = refl; same-bundle = refl }
-
-  first-exactly : HoldsExactly (withGroup s first) g (n ∷ [])
-  unfolding withGroup
-  first-exactly =
-      let k = begun-keeps v (g .source) (sentNumbers g) (g .low) (g .some) (g .few) in
-      let q = put-part v m form g n le none k none-of [] none-known in
-      record {
-        still-open = open-with v s first (y .opened) (q .box) (q .of-group .of-source ∙ sym (y .for-source));
-        for-source = y .for-source;
-        in-form = y .in-form;
-        part = q;
-      }
-
-  begins-group : First s g n
-  unfolding accept
-  begins-group =
-      let o : offerOne s g n ≡ accept (withGroup s first) (lostBefore (v .shape) s (sentNumbers g)) = begun-first ∙ begins-so (y .reported) ∙ ap (accept (withGroup s first)) reported-is in
-      record { told = ap (λ (z : Offered). z .answer) o; after = subst (λ (z : Session). HoldsExactly z g (n ∷ [])) (sym (ap (λ (z : Offered). z .session) o)) first-exactly }
+places-as : {fs gs hs : List Frame} {l m b c : ℕ} {ns : List ℕ} → gs ≡ hs → l ≡ m → b ≡ c → PouredPlaces fs gs l b ns → PouredPlaces fs hs m c ns
+places-as {fs} {gs} {hs} {l} {m} {b} {c} {ns} p q r x =
+    subst (λ (i : List Frame). PouredPlaces fs i m c ns) p (subst (λ (i : ℕ). PouredPlaces fs gs i c ns) q (subst (λ (i : ℕ). PouredPlaces fs gs l i ns) r x))
 
 -- ---- the demand
-or-turn : (a b : Bool) → a || (b || false) ≡ b || a
-or-turn true true = refl
-or-turn true false = refl
-or-turn false true = refl
-or-turn false false = refl
+module _ (write : Build packet.write) (g : WrittenGroup write) where
+  made-so : (n : ℕ) → n ≤ g .numbers .l →
+      packetMade (kindOf (vocoderOf (Interleaved (g .limits)))) (Interleaved (g .limits)) (g .numbers .l) n (g .numbers .b) (g .d n) (g .entries) ≡ octets (g .payload n)
+  made-so n h =
+      wrote-made _ (g .buffer n) _ _ (g .payload n) (writes-so write (Interleaved (g .limits)) (g .numbers .l) n (g .numbers .b) (g .d n) (g .entries) (g .buffer n))
+      (g .wrote n h .count) (g .wrote n h .front)
 
-or-assoc : (a b c : Bool) → a || (b || c) ≡ (b || a) || c
-or-assoc true true c = refl
-or-assoc true false c = refl
-or-assoc false true c = refl
-or-assoc false false c = refl
+  sent-so : SentSo (voiceFor (Interleaved (g .limits))) (AdmitsIn (g .numbers .l) (g .numbers .b)) (g .source) (g .numbers) (originals g) (g .payload)
+  unfolding WriterSends KindsPass
+  sent-so =
+      writer-sends (kindOf (vocoderOf (Interleaved (g .limits)))) (kinds-pass (vocoderOf (Interleaved (g .limits))) .narrows) (g .limits) (g .numbers) (g .entries) (g .d)
+      (g .payload) made-so (g .source) (g .sequence-fits) (g .timestamp-fits)
 
-spread-among : (i : ℕ) (ds ns : List ℕ) → among i (spread ds ns) ≡ among i ns || among i ds
-spread-among i ds [] = refl
-spread-among i ds (n ∷ ns) = spread-among i (n ∷ ds) ns ∙ or-assoc (among i ns) (eqb i n) (among i ds)
+  none-erased : NoErasure (originals g)
+  unfolding NoErasure WriterSendsNoErasure TablesNeverSendErasures
+  none-erased =
+      writer-sends-no-erasure (kindOf (vocoderOf (Interleaved (g .limits)))) (tables-never-send-erasures (vocoderOf (Interleaved (g .limits)))) (g .limits)
+      (g .numbers .l) 0 (g .numbers .b) (g .d 0) (g .entries) (g .payload 0) (made-so 0 zero-le)
 
-pub places-of : (v : Voice) → HasRoom v → (form : Form) (s : Session) (g : Sent v form) (ns : List ℕ) → HoldsExactly s g ns → PouredPlaces s g ns
-unfolding EveryPlaceInTime
-places-of v m form s g ns x =
-    let p = every-place-in-time v m (s .group) (x .part .box) in
-    record {
-      count = p .count ∙ ap₂ (λ (l b : ℕ). (l + 1) * b) (x .part .of-group .same-length) (x .part .of-group .same-bundle);
-      original = λ n k i j e. at-place n k i j ∙ ap (λ (w : Known). frameKnown w k) (known-as g n e) ∙ packet-at (g .l) n (g .b) (g .frames) k j;
-      erased = λ n k i j e. at-place n k i j ∙ ap (λ (w : Known). frameKnown w k) (known-as g n e);
-    }
-  where
-    at-place : (n k : ℕ) → n ≤ g .l → k < g .b → frameAt (inTime v (s .group)) (placeOf (g .l) n k) ≡ frameKnown (knowledge g ns n) k
-    at-place n k i j =
-        ap (λ (l : ℕ). frameAt (inTime v (s .group)) (placeOf l n k)) (sym (x .part .of-group .same-length))
-        ∙ every-place-in-time v m (s .group) (x .part .box) .places n k (omega (arith, x .part .of-group .same-length)) (omega (arith, x .part .of-group .same-bundle))
-        ∙ ap (λ (w : Known). frameKnown w k) (x .part .knows n (omega (arith, g .low)))
+  module _ (form : Form) (i : AdmitsIn (g .numbers .l) (g .numbers .b) form) where
+    abbrev t : Sent (voiceFor form) form
+    t = sent-so .sent form i
 
--- an open session pours its group's places
-pours : (v : Voice) → HasRoom v → (s : Session) → isOpen v s ≡ true → Box v (s .group) → pourMade v s ≡ octets (entriesOf (inTime v (s .group)))
-unfolding EveryPlaceInTime pourMade
-pours v m s o x = rw o (every-place-in-time v m (s .group) x .entries)
+    t-source : t .group .source ≡ g .source
+    t-source = ap (λ k. k .source) (sent-so .same-group form i) ∙ sent-so .its-source
+
+    t-numbers : sentNumbers (t .group) ≡ g .numbers
+    t-numbers = ap (λ k. sentNumbers k) (sent-so .same-group form i) ∙ sent-so .its-numbers
+
+    t-frames : t .group .frames ≡ originals g
+    t-frames = ap (λ k. k .frames) (sent-so .same-group form i) ∙ sent-so .its-frames
+
+    t-l : t .group .l ≡ g .numbers .l
+    t-l = ap (λ (k : GroupNumbers). k .l) t-numbers
+
+    t-b : t .group .b ≡ g .numbers .b
+    t-b = ap (λ (k : GroupNumbers). k .b) t-numbers
+
+    module _ (s : Session) (y : Ready (voiceFor form) form s (g .source) (g .numbers)) (n : ℕ) (ns : List ℕ) (w : Within (g .numbers .l) (n ∷ ns)) where
+      delivered : Delivered s t n ns
+      unfolding OffersDeliver
+      delivered =
+          offers-deliver (voiceFor form) (voices-have-room .of-sessions form) form t s
+          (subst (λ (k : GroupNumbers). Ready (voiceFor form) form s (t .group .source) k) (sym t-numbers)
+          (subst (λ (k : ℕ). Ready (voiceFor form) form s k (g .numbers)) (sym t-source) y)) n ns (subst (λ (k : ℕ). Within k (n ∷ ns)) (sym t-l) w)
+
+      poured-through : (pour : Build session.pour) → PouredThrough pour g (offerAll s t (n ∷ ns)) (n ∷ ns)
+      unfolding OneMissingPacket
+      poured-through pour =
+          let u = offerAll s t (n ∷ ns) in
+          let fs = inTime (voiceFor form) (u .group) in
+          let made : (out : List ℕ) → Writes (octets (entriesOf fs)) out (pour .run u (record { out = out }) .0 .answer) (pour .run u (record { out = out }) .1 .out)
+          = λ out. subst (λ (m : Made). Writes m out (pour .run u (record { out = out }) .0 .answer) (pour .run u (record { out = out }) .1 .out)) (delivered .poured) (pours-so pour u out .0) in
+          record {
+            frames = fs;
+            places = places-as t-frames t-l t-b (delivered .places);
+            octet-count = delivered .octet-count ∙ ap₂ (λ (l b : ℕ). (l + 1) * b + bodyOctets fs) t-l t-b;
+            answered = λ out h. written-room (entriesOf fs) out _ _ (made out) h .0;
+            poured = λ out h. written-room (entriesOf fs) out _ _ (made out) h .1;
+            one-missing = λ x o. subst (Spread fs) t-b
+                (one-missing-packet (voiceFor form) (voices-have-room .of-sessions form) form t u (n ∷ ns) (delivered .exactly)
+                (subst NoErasure (sym t-frames) none-erased) x (subst (λ (k : ℕ). OneMissing k (n ∷ ns) x) (sym t-l) o));
+          }
 
 pub demand-3 : Demand3
-unfolding Demand3 AllAccepted offerAll
-demand-3 v m form g s y n ns w =
-    let f = begins-group v m form g n (w .0) s y in
-    let r = offers v m form g (offerOne s g n .session) (n ∷ []) ns (f .after) (w .1) in
-    let x = exactly-as (offerAll (offerOne s g n .session) g ns) g (spread (n ∷ []) ns) (n ∷ ns) (λ i. spread-among i (n ∷ []) ns ∙ or-turn (among i ns) (eqb i n)) (r .after) in
-    let t = offerAll (offerOne s g n .session) g ns in
-    let p = places-of v m form t g (n ∷ ns) x in
-    record {
-      accepted = (f .told, r .told);
-      exactly = x;
-      places = p;
-      poured = pours v m t (x .still-open) (x .part .box);
-      octet-count = entries-length (inTime v (t .group)) ∙ ap (λ (i : ℕ). i + bodyOctets (inTime v (t .group))) (p .count);
-    }
-
-pub copied-out : CopiedOut
-unfolding CopiedOut copied
-copied-out v form s g ns x = simp (x .still-open, some-held v (s .group) (x .part .box))
+unfolding Demand3
+demand-3 write offer pour g form i s y n ns w =
+    let t = sent-so write g .sent form i in
+    let d = delivered write g form i s y n ns w in
+    let lost = lostBefore (voiceFor form .shape) s (sentNumbers (t .group)) in
+    let x = through offer g form t (t-source write g form i) (t-numbers write g form i) (sent-so write g .its-payload form i) s (y .in-form) lost (n ∷ ns) (d .accepted) in (
+      subst (λ (k : GroupNumbers). AcceptedThrough offer g s (lostBefore (voiceFor form .shape) s k) (n ∷ ns)) (t-numbers write g form i) (x .0),
+      subst (λ (u : Session). PouredThrough pour g u (n ∷ ns)) (sym (x .1)) (poured-through write g form i s y n ns w pour),
+    )

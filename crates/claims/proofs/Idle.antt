@@ -16,26 +16,26 @@ use Rattle.knowledge.specs.Knowledge.{Known, unheard, knownOf}
 use Rattle.session.specs.declared.Session.{Session}
 use Rattle.session.specs.declared.Taken.the-variants.{Accepted, Refused}
 use Rattle.claims.specs.Sessions.{lostBefore, OctetCountByFormula}
-use Rattle.claims.specs.Demand3.{Sent, sentNumbers, offerOne, offerAll, AllAccepted, among, sentPacket, Delivered}
+use Rattle.claims.specs.Offering.{Sent, sentNumbers, offerOne, offerAll, AllAccepted, among, sentPacket, Delivered}
 use Rattle.claims.specs.Missing.{isErasure}
 use Rattle.claims.specs.Idle.{RefusesEverything, PoursErasures, StoresNothing, NodsAtLater, InventsLostFrames, InventsOctetCounts}
 use Rattle.claims.proofs.Sessions.{octet-count-by-formula}
-use Rattle.claims.proofs.Demand3.{some-held}
+use Rattle.claims.proofs.Offering.{some-held}
 
-first-told : {v : Voice} {form : Form} (s : Session) (g : Sent v form) (n : ℕ) (ns : List ℕ) → Delivered s g n ns → offerOne s g n .answer ≡ Accepted (lostBefore (v .shape) s (sentNumbers g))
+first-told : {v : Voice} {form : Form} (s : Session) (g : Sent v form) (n : ℕ) (ns : List ℕ) → Delivered s g n ns → offerOne s g n .answer ≡ Accepted (lostBefore (v .shape) s (sentNumbers (g .group)))
 unfolding AllAccepted
 first-told s g n ns x = x .accepted .0
 
 pub refuses-everything : RefusesEverything
 unfolding RefusesEverything
 refuses-everything v form s g n ns x r e =
-    let z : Accepted (lostBefore (v .shape) s (sentNumbers g)) ≡ Refused r = sym (first-told s g n ns x) ∙ e in
+    let z : Accepted (lostBefore (v .shape) s (sentNumbers (g .group))) ≡ Refused r = sym (first-told s g n ns x) ∙ e in
     apart (cc)
 
 pub invents-lost-frames : InventsLostFrames
 unfolding InventsLostFrames
 invents-lost-frames v form s g n ns x k e d =
-    let z : Accepted k ≡ Accepted (lostBefore (v .shape) s (sentNumbers g)) = sym e ∙ first-told s g n ns x in
+    let z : Accepted k ≡ Accepted (lostBefore (v .shape) s (sentNumbers (g .group))) = sym e ∙ first-told s g n ns x in
     d (same z)
   where
     same : {a b : ℕ} → Accepted a ≡ Accepted b → a ≡ b
@@ -45,7 +45,7 @@ pub pours-erasures : PoursErasures
 unfolding PoursErasures
 pours-erasures v form s g n ns x i a h =
     let m : among n (n ∷ ns) ≡ true = here (eqb n n) (eq-eqb n n refl) in
-    let z : true ≡ false = sym (h (placeOf (g .l) n 0)) ∙ ap isErasure (x .places .original n 0 i (g .some) m) ∙ a in
+    let z : true ≡ false = sym (h (placeOf (g .group .l) n 0)) ∙ ap isErasure (x .places .original n 0 i (g .group .some) m) ∙ a in
     apart (cc)
   where
     here : (t : Bool) → t ≡ true → t || among n ns ≡ true
@@ -61,8 +61,8 @@ stores-nothing v form s g n ns y x e =
 pub nods-at-later : NodsAtLater
 unfolding NodsAtLater
 nods-at-later v form s g n k a b i d e =
-    let p : knownOf v (offerAll s g (n ∷ k ∷ []) .group) k ≡ sentPacket g k = b .exactly .part .knows k (omega (arith, g .low)) ∙ rw (ne-eqb k n d, eq-eqb k k refl) in
-    let q : knownOf v (offerAll s g (n ∷ []) .group) k ≡ unheard = a .exactly .part .knows k (omega (arith, g .low)) ∙ rw (ne-eqb k n d) in
+    let p : knownOf v (offerAll s g (n ∷ k ∷ []) .group) k ≡ sentPacket (g .group) k = b .exactly .part .knows k (omega (arith, g .group .low)) ∙ rw (ne-eqb k n d, eq-eqb k k refl) in
+    let q : knownOf v (offerAll s g (n ∷ []) .group) k ≡ unheard = a .exactly .part .knows k (omega (arith, g .group .low)) ∙ rw (ne-eqb k n d) in
     let z : true ≡ false = ap (λ (w : Known). w .held) (sym p ∙ ap (λ (h : Holding). knownOf v h k) e ∙ q) in
     apart (cc)
 

@@ -6,9 +6,11 @@ pub mod Payloads
 pub mod Recordings
 pub mod Sessions
 pub mod Joinings
-pub mod Demand3
+pub mod Offering
 pub mod Sending
 pub mod Missing
+pub mod Builds
+pub mod Demand3
 pub mod Boxes
 pub mod Captures
 pub mod CapturesRead

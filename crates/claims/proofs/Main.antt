@@ -13,7 +13,8 @@ use Rattle.claims.proofs.Packets.{packet-read-after-write}
 use Rattle.claims.proofs.PacketsBack.{packet-write-after-read, header-free-read-after-write, header-free-write-after-read}
 use Rattle.claims.proofs.PacketsBack.{kinds-pass}
 use Rattle.claims.proofs.Recordings.{recording-read-after-write, recording-write-after-read, recording-same-octets, opening-alone}
-use Rattle.claims.proofs.Demand3.{demand-3, copied-out}
+use Rattle.claims.proofs.Demand3.{demand-3}
+use Rattle.claims.proofs.Offering.{fresh-is-ready, offers-deliver, copied-out}
 use Rattle.claims.proofs.Sending.{writer-sends, header-free-writer-sends, writer-sends-no-erasure, tables-never-send-erasures}
 use Rattle.claims.proofs.Missing.{one-missing-packet}
 use Rattle.claims.proofs.Joinings.{every-order-and-grouping, every-permutation, with-itself, difference-ends-in-14, else-they-join}
@@ -62,6 +63,8 @@ promised = record {
   recording-same-octets = recording-same-octets;
   opening-alone = opening-alone;
   demand-3 = demand-3;
+  fresh-is-ready = fresh-is-ready;
+  offers-deliver = offers-deliver;
   writer-sends = writer-sends;
   header-free-writer-sends = header-free-writer-sends;
   repeat-changes-nothing = repeat-changes-nothing;

@@ -20,9 +20,9 @@ use Rattle.pouring.specs.Pouring.{row, rows, inTime}
 use Rattle.pouring.proofs.PouringLaws.{rows-at}
 use Rattle.session.specs.declared.Session.{Session}
 use Rattle.claims.specs.Joinings.{HasRoom}
-use Rattle.claims.specs.Demand3.{Sent, among, HoldsExactly, PouredPlaces}
-use Rattle.claims.specs.Missing.{isErasure, erasures, OneMissing, Spread, OneMissingPacket}
-use Rattle.claims.proofs.Demand3.{places-of}
+use Rattle.claims.specs.Offering.{Sent, among, HoldsExactly, PouredPlaces}
+use Rattle.claims.specs.Missing.{isErasure, erasures, OneMissing, NoErasure, Spread, OneMissingPacket}
+use Rattle.claims.proofs.Offering.{places-of}
 
 -- ---- counting
 erasures-append : (fs gs : List Frame) → erasures (fs ++ gs) ≡ erasures fs + erasures gs
@@ -80,20 +80,22 @@ rests-differ t m x h a b =
         absurd (omega arith)
 
 -- ---- one packet missing
-module _ (v : Voice) (m : HasRoom v) (form : Form) (g : Sent v form) (s : Session) (ns : List ℕ) (h : HoldsExactly s g ns) (x : ℕ) (o : OneMissing g ns x) where
-  places : PouredPlaces s g ns
+module _ (v : Voice) (m : HasRoom v) (form : Form) (g : Sent v form) (s : Session) (ns : List ℕ) (h : HoldsExactly s g ns)
+    (z : NoErasure (g .group .frames)) (x : ℕ) (o : OneMissing (g .group .l) ns x) where
+  places : PouredPlaces (inTime v (s .group)) (g .group .frames) (g .group .l) (g .group .b) ns
   places = places-of v m form s g ns h
 
-  at-place : (n k : ℕ) → n ≤ g .l → k < g .b → isErasure (frameAt (inTime v (s .group)) (placeOf (g .l) n k)) ≡ eqb n x
+  at-place : (n k : ℕ) → n ≤ g .group .l → k < g .group .b → isErasure (frameAt (inTime v (s .group)) (placeOf (g .group .l) n k)) ≡ eqb n x
+  unfolding NoErasure
   at-place n k i j = go (eqb n x) refl
     where
-      go : (t : Bool) → eqb n x ≡ t → isErasure (frameAt (inTime v (s .group)) (placeOf (g .l) n k)) ≡ t
+      go : (t : Bool) → eqb n x ≡ t → isErasure (frameAt (inTime v (s .group)) (placeOf (g .group .l) n k)) ≡ t
       go true e =
           let q : among n ns ≡ false = ap (λ (y : ℕ). among y ns) (eqb-true n x e) ∙ o .missing in
           ap isErasure (places .erased n k i j q)
       go false e =
           ap isErasure (places .original n k i j (o .others n i (eqb-false n x e)))
-          ∙ o .no-erasure (placeOf (g .l) n k) (omega (arith, g .many, place-in (g .l) n (g .b) k i j))
+          ∙ z (placeOf (g .group .l) n k) (omega (arith, g .group .many, place-in (g .group .l) n (g .group .b) k i j))
 
   in-time : (n k : ℕ) → n < s .group .l + 1 → k < s .group .b → isErasure (frameOf v (bundleAt (v .shape) (s .group) n) k) ≡ eqb n x
   in-time n k i j =
@@ -102,23 +104,24 @@ module _ (v : Voice) (m : HasRoom v) (form : Form) (g : Sent v form) (s : Sessio
       ∙ at-place n k (omega (arith, h .part .of-group .same-length)) (omega (arith, h .part .of-group .same-bundle))
 
   -- the place t is an erasure only if its packet is the missing one
-  of-packet : (t : ℕ) → t < (g .l + 1) * g .b → isErasure (frameAt (inTime v (s .group)) t) ≡ true → t % (g .l + 1) ≡ x
+  of-packet : (t : ℕ) → t < (g .group .l + 1) * g .group .b → isErasure (frameAt (inTime v (s .group)) t) ≡ true → t % (g .group .l + 1) ≡ x
   of-packet t i e =
-      let w = g .l + 1 in
+      let w = g .group .l + 1 in
       let n : t % w < w = mod-lt t {m = w} (omega arith) in
-      let k : t / w < g .b = div-lt-iff-lt-mul {k = w} {x = t} {y = g .b} (omega arith) .1 (omega (arith, mul-comm (g .b) w)) in
-      let p : placeOf (g .l) (t % w) (t / w) ≡ t = ap (λ (i : ℕ). i + t % w) (mul-comm (t / w) w) ∙ div-add-mod t w in
+      let k : t / w < g .group .b = div-lt-iff-lt-mul {k = w} {x = t} {y = g .group .b} (omega arith) .1 (omega (arith, mul-comm (g .group .b) w)) in
+      let p : placeOf (g .group .l) (t % w) (t / w) ≡ t = ap (λ (i : ℕ). i + t % w) (mul-comm (t / w) w) ∙ div-add-mod t w in
       eqb-true (t % w) x (sym (at-place (t % w) (t / w) (omega arith) k) ∙ ap (λ (i : ℕ). isErasure (frameAt (inTime v (s .group)) i)) p ∙ e)
 
-  spread : Spread s g
+  spread : Spread (inTime v (s .group)) (g .group .b)
   spread =
       record {
         exactly-b = row-erasures v (s .group .marks) (s .group .room) x (s .group .l + 1) (s .group .b)
             (omega (arith, h .part .of-group .same-length, o .in-group)) in-time
             ∙ h .part .of-group .same-bundle;
-        no-neighbours = λ t i a b. rests-differ t (g .l + 1) x (omega (arith, o .two-or-more)) (of-packet t (omega arith) a) (of-packet (t + 1) i b);
+        no-neighbours = λ t i a b. rests-differ t (g .group .l + 1) x (omega (arith, o .two-or-more))
+            (of-packet t (omega (arith, places .count)) a) (of-packet (t + 1) (omega (arith, places .count)) b);
       }
 
 pub one-missing-packet : OneMissingPacket
 unfolding OneMissingPacket
-one-missing-packet v m form g s ns h x o = spread v m form g s ns h x o
+one-missing-packet v m form g s ns h z x o = spread v m form g s ns h z x o

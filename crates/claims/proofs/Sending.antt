@@ -1,5 +1,5 @@
 -- Our writers send groups that demand 3 speaks of. Assumes nothing.
-use Prim.Native.Nat.{ℕ, _-_, zero-le}
+use Prim.Native.Nat.{ℕ, _-_, _≤_, _<_, zero-le}
 use mathlib.Core.Path.{_≡_, refl, sym, ap, subst, _∙_}
 use mathlib.Core.List.{List, [], _∷_}
 use mathlib.Core.Bool.{Bool, true, false, not, _&&_}
@@ -14,7 +14,10 @@ use Rattle.frame.specs.FrameTable.{rowsOf, FrameTable, Frame, rowOf, erasure, l
 use Rattle.frame.specs.Places.{upTo}
 use Rattle.answers.specs.Outputs.{octets}
 use Rattle.form.specs.declared.Limits.{Limits}
+use Rattle.form.specs.declared.Form.{Form}
 use Rattle.form.specs.declared.Form.the-variants.{HeaderFree, Interleaved}
+use Rattle.frame.specs.Shape.{voiceWith}
+use Rattle.numbers.specs.declared.GroupNumbers.{GroupNumbers}
 use Rattle.form.proofs.AgreedLaws.{range-bounds}
 use Rattle.payload.specs.Payload.{packet, readAs}
 use Rattle.entries.specs.Kind.{Kind}
@@ -28,8 +31,9 @@ use Rattle.entries.proofs.Clearing.{read-any}
 use Rattle.packet.specs.Packet.{packetFrames, groupIn}
 use Rattle.packet.specs.Writing.{headerFreeMade, oneBody, packetMade}
 use Rattle.packet.proofs.Packing.{length-packet}
-use Rattle.claims.specs.Packets.{narrow, HeaderFreeReadAfterWrite}
-use Rattle.claims.specs.Sending.{Admits, WriterSends, HeaderFreeWriterSends, sentOf, neverSent, WriterSendsNoErasure}
+use Rattle.claims.specs.Packets.{narrow, tells, HeaderFreeReadAfterWrite}
+use Rattle.claims.specs.Offering.{SentGroup, Sent}
+use Rattle.claims.specs.Sending.{Admits, AdmitsIn, WriterSends, HeaderFreeWriterSends, sentOf, neverSent, WriterSendsNoErasure}
 use Rattle.claims.specs.Sending.{TablesNeverSendErasures}
 use Rattle.claims.specs.Missing.{isErasure}
 use Rattle.claims.proofs.Packets.{made-of, packed-back}
@@ -58,23 +62,22 @@ admitted kind t m limits l n b d es w ok e =
       fit = y .fit;
     })
 
-pub writer-sends : WriterSends
-unfolding WriterSends
-writer-sends kind t m l b es d payload made source sequence timestamp hs ht limits ok =
-    let x = made-of kind m l 0 b (d 0) es (payload 0) (made 0 zero-le) in
-    let w = x .writable t in
-    let r = range-bounds m (w .range) in
-    let c = length-packet l 0 b (groupIn kind es) in
-    record {
-      group = record {
+module _ (kind : Kind) (t : T (narrow (kind .table))) (m : Limits) (g : GroupNumbers) (es : List ℕ) (d : ℕ → ℕ) (payload : ℕ → List ℕ)
+    (made : (n : ℕ) → n ≤ g .l → packetMade kind (Interleaved m) (g .l) n (g .b) (d n) es ≡ octets (payload n)) where
+  -- the group that was written, whatever form it is read in
+  written-group : (source : ℕ) → g .sequence < 65536 → g .timestamp < 4294967296 → SentGroup (voiceWith (kind .table))
+  written-group source hs ht =
+      let x = made-of kind m (g .l) 0 (g .b) (d 0) es (payload 0) (made 0 zero-le) in
+      let w = x .writable t in
+      let r = range-bounds m (w .range) in
+      let c = length-packet (g .l) 0 (g .b) (groupIn kind es) in
+      record {
         source = source;
-        sequence = sequence;
-        timestamp = timestamp;
-        l = l;
-        b = b;
+        sequence = g .sequence;
+        timestamp = g .timestamp;
+        l = g .l;
+        b = g .b;
         frames = groupIn kind es;
-        payload = payload;
-        d = d;
         sequence-fits = hs;
         timestamp-fits = ht;
         low = w .l-small;
@@ -82,16 +85,38 @@ writer-sends kind t m l b es d payload made source sequence timestamp hs ht limi
         few = omega (arith, w .few, r .2);
         many = x .count;
         listed = x .whole;
-        read = λ n h. admitted kind t m limits l n b (d n) es (payload n) ok (made n h);
-      };
-      its-source = refl;
-      its-sequence = refl;
-      its-timestamp = refl;
-      its-l = refl;
-      its-b = refl;
-      its-frames = refl;
-      its-payload = λ n. refl;
-    }
+      }
+
+  -- and its packets, in a form that admits it
+  written-in : (source : ℕ) → g .sequence < 65536 → g .timestamp < 4294967296 → (form : Form) → AdmitsIn (g .l) (g .b) form → Sent (voiceWith (kind .table)) form
+  unfolding AdmitsIn written-group
+  written-in source hs ht HeaderFree i = absurd i
+  written-in source hs ht (Interleaved limits) i = record {
+    group = written-group source hs ht;
+    payload = payload;
+    d = d;
+    read = λ n h. admitted kind t m limits (g .l) n (g .b) (d n) es (payload n) i (made n h);
+  }
+
+pub writer-sends : WriterSends
+unfolding WriterSends AdmitsIn written-group written-in
+writer-sends kind t m g es d payload made source hs ht = record {
+  group = written-group kind t m g es d payload made source hs ht;
+  its-source = refl;
+  its-numbers = refl;
+  its-frames = refl;
+  sent = written-in kind t m g es d payload made source hs ht;
+  same-group = λ form i. group-in form i;
+  its-payload = λ form i n. payload-in form i n;
+}
+  where
+    group-in : (form : Form) (i : AdmitsIn (g .l) (g .b) form) → written-in kind t m g es d payload made source hs ht form i .group ≡ written-group kind t m g es d payload made source hs ht
+    group-in HeaderFree i = absurd i
+    group-in (Interleaved limits) i = refl
+
+    payload-in : (form : Form) (i : AdmitsIn (g .l) (g .b) form) (n : ℕ) → written-in kind t m g es d payload made source hs ht form i .payload n ≡ payload n
+    payload-in HeaderFree i n = absurd i
+    payload-in (Interleaved limits) i n = refl
 
 -- one frame is a group of one packet of one frame
 record One (kind : Kind) (es : List ℕ) : Type 0 where
@@ -115,40 +140,66 @@ only-packet : (fs : List Frame) (f : Frame) → fs ≡ f ∷ [] → fs ≡ packe
 unfolding packetFrames upTo
 only-packet fs f e = rw e
 
-pub header-free-writer-sends : HeaderFreeWriterSends
-unfolding HeaderFreeWriterSends HeaderFreeReadAfterWrite
-header-free-writer-sends kind t es w made source sequence timestamp hs ht =
-    let o = one-frame kind es w made in
-    let c : length (groupIn kind es) ≡ 1 = ap length (o .is) in
-    record {
-      group = record {
+module _ (kind : Kind) (t : T (tells (kind .table) (kind .table))) (es w : List ℕ) (made : headerFreeMade kind HeaderFree es ≡ octets w) (source sequence timestamp : ℕ)
+    (hs : sequence < 65536) (ht : timestamp < 4294967296) where
+  -- the group of one packet of one frame
+  one-group : SentGroup (voiceWith (kind .table))
+  one-group =
+      let o = one-frame kind es w made in
+      record {
         source = source;
         sequence = sequence;
         timestamp = timestamp;
         l = 0;
         b = 1;
         frames = groupIn kind es;
-        payload = λ n. w;
-        d = λ n. 0;
         sequence-fits = hs;
         timestamp-fits = ht;
         low = omega arith;
         some = omega arith;
         few = omega arith;
-        many = c;
+        many = ap length (o .is);
         listed = o .listed;
+      }
+
+  one-sent : Sent (voiceWith (kind .table)) HeaderFree
+  unfolding HeaderFreeReadAfterWrite one-group
+  one-sent =
+      let o = one-frame kind es w made in
+      record {
+        group = one-group;
+        payload = λ n. w;
+        d = λ n. 0;
         read = λ n h. header-free-read-after-write kind t es w made
             ∙ ap (packet 0 0 0) (only-packet (groupIn kind es) (o .frame) (o .is))
             ∙ ap (λ (i : ℕ). packet 0 i 0 (packetFrames 0 i 1 (groupIn kind es))) (sym (let z : n ≡ 0 = omega arith in z));
-      };
-      its-source = refl;
-      its-sequence = refl;
-      its-timestamp = refl;
-      its-l = refl;
-      its-b = refl;
-      its-frames = refl;
-      its-payload = λ n. refl;
-    }
+      }
+
+  one-in : (form : Form) → form ≡ HeaderFree → Sent (voiceWith (kind .table)) form
+  one-in HeaderFree e = one-sent
+  one-in (Interleaved m) e = apart (cc)
+
+  one-same : (form : Form) (e : form ≡ HeaderFree) → one-in form e .group ≡ one-group
+  unfolding one-in one-sent
+  one-same HeaderFree e = refl
+  one-same (Interleaved m) e = apart (cc)
+
+  one-payload : (form : Form) (e : form ≡ HeaderFree) (n : ℕ) → one-in form e .payload n ≡ w
+  unfolding one-in one-sent
+  one-payload HeaderFree e n = refl
+  one-payload (Interleaved m) e n = apart (cc)
+
+pub header-free-writer-sends : HeaderFreeWriterSends
+unfolding HeaderFreeWriterSends one-group
+header-free-writer-sends kind t es w made source sequence timestamp hs ht = record {
+  group = one-group kind t es w made source sequence timestamp hs ht;
+  its-source = refl;
+  its-numbers = refl;
+  its-frames = refl;
+  sent = one-in kind t es w made source sequence timestamp hs ht;
+  same-group = one-same kind t es w made source sequence timestamp hs ht;
+  its-payload = one-payload kind t es w made source sequence timestamp hs ht;
+}
 
 -- ---- no erasure is sent
 pub tables-never-send-erasures : TablesNeverSendErasures

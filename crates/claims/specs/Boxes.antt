@@ -11,7 +11,7 @@ use Rattle.session.specs.Session.{copied}
 use Rattle.answers.specs.declared.Answer.the-variants.{Done}
 use Rattle.session.specs.declared.Session.{Session}
 use Rattle.claims.specs.Joinings.{HasRoom, Way, boxes, done, outcome}
-use Rattle.claims.specs.Demand3.{Sent, among, Part, HoldsExactly}
+use Rattle.claims.specs.Offering.{SentGroup, Sent, among, HoldsExactly}
 
 -- such a session's holding can be copied out
 unfoldable pub CopiedOut : Type 0
@@ -24,11 +24,21 @@ abbrev pub offeredTo : ℕ → (Holding → List ℕ) → List Holding → Bool
 offeredTo n parts [] = false
 offeredTo n parts (h ∷ hs) = among n (parts h) || offeredTo n parts hs
 
--- boxes that each were offered a part of the group, joined in any order and grouping, hold what one box would that was offered all of it
+-- a box that was offered these packets of the group: its session, of any form in which they are read, and the holding copied out of it
+pub record HeardBy (v : Voice) (g : SentGroup v) (h : Holding) (ns : List ℕ) : Type 0 where
+  pub form : Form
+  pub sent : Sent v form
+  pub same-group : sent .group ≡ g
+  pub session : Session
+  pub exactly : HoldsExactly session sent ns
+  pub copied-out : copied v session ≡ record { answer = Done; holding = h }
+
+-- boxes that each were offered a part of the group, each in a form of its own, joined in any order and grouping, hold what one box would
+-- that was offered all of it
 unfoldable pub BoxesJoin : Type 0
 BoxesJoin =
-    (v : Voice) → HasRoom v → (form : Form) (g : Sent v form) (w : Way) (parts : Holding → List ℕ) →
-    ((h : Holding) → Among h (boxes w) → Part h g (parts h)) →
-    (one : Session) (all : List ℕ) → HoldsExactly one g all →
+    (v : Voice) → HasRoom v → (g : SentGroup v) (w : Way) (parts : Holding → List ℕ) →
+    ((h : Holding) → Among h (boxes w) → HeardBy v g h (parts h)) →
+    (one : Holding) (all : List ℕ) → HeardBy v g one all →
     ((n : ℕ) → n < packetsOf (v .shape) → among n all ≡ offeredTo n parts (boxes w)) →
-    outcome v w ≡ done (one .group)
+    outcome v w ≡ done one

@@ -1,52 +1,44 @@
 -- Document 01, "Capture program": what holds of every capture. Of recordings of any kind.
-use Prim.Native.Nat.{ℕ, _+_, _*_, _%_, _≤_, _<_}
+use Prim.Native.Nat.{ℕ, _+_, _≤_}
 use mathlib.Core.Path.{_≡_}
 use mathlib.Core.List.{List, [], _∷_, _++_, map}
-use mathlib.Core.Bool.{true, false, cond, _&&_}
+use mathlib.Core.Bool.{true, cond, _&&_}
 use lib.Dec.{T, eqb, leb}
 use lib.ListN.{length}
-use Rattle.frame.specs.FrameTable.{Frame, erasure, single}
+use Rattle.frame.specs.FrameTable.{Frame, single}
 use Rattle.frame.specs.Shape.{Voice, voiceWith}
 use Rattle.entries.specs.Kind.{Kind, keepsTypes, listsErasure}
-use Rattle.frame.specs.Places.{frameAt}
 use Rattle.form.specs.declared.Form.{Form}
-use Rattle.packet.specs.Packet.{placeOf}
 use Rattle.entries.specs.Entries.{entriesOf}
 use Rattle.entries.specs.Entries as entries
 use Rattle.recording.specs.Recording.{recordingRead}
 use Rattle.capture.specs.Capture.{Heard, countOf, startAt, packetsIn, good}
 use Rattle.capture.specs.Run.{captureKind, captureForm, entriesRecorded, captureRecording, largest}
 use Rattle.claims.specs.Joinings.{HasRoom}
-use Rattle.claims.specs.Demand3.{Sent, Within, among}
+use Rattle.claims.specs.Offering.{SentGroup, Sent, sentNumbers, numbered, stamped, Within, PouredPlaces}
 
 -- packet n of a group, as a box hands it over
 abbrev pub heardOf : {v : Voice} {form : Form} → Sent v form → ℕ → Heard
 heardOf g n =
     record {
-      source = g .source;
-      sequence = (g .sequence + n) % 65536;
-      timestamp = (g .timestamp + 160 * n) % 4294967296;
+      source = g .group .source;
+      sequence = numbered (sentNumbers (g .group)) n;
+      timestamp = stamped (sentNumbers (g .group)) n;
       payload = g .payload n;
     }
 
 -- a recording of a group of which these packets were heard: at each time place the original frame, or an erasure
-pub record RecordsGroup {v : Voice} {form : Form} (recording opening : List ℕ) (g : Sent v form) (ns : List ℕ) : Type 0 where
+pub record RecordsGroup {v : Voice} (recording opening : List ℕ) (g : SentGroup v) (ns : List ℕ) : Type 0 where
   pub frames : List Frame
   pub behind-opening : recording ≡ opening ++ entriesOf frames
-  pub count : length frames ≡ (g .l + 1) * g .b
-  pub original :
-      (n k : ℕ) → n ≤ g .l → k < g .b → among n ns ≡ true →
-      frameAt frames (placeOf (g .l) n k) ≡ frameAt (g .frames) (placeOf (g .l) n k)
-  pub erased :
-      (n k : ℕ) → n ≤ g .l → k < g .b → among n ns ≡ false →
-      frameAt frames (placeOf (g .l) n k) ≡ record { type = erasure; body = [] }
+  pub places : PouredPlaces frames (g .frames) (g .l) (g .b) ns
 
 -- demand 3 through a capture: a group that was sent, any part of it, in any order, repeats allowed
 unfoldable pub GroupIsRecorded : Type 0
 GroupIsRecorded =
     (kind : Kind) → HasRoom (voiceWith (kind .table)) → (g : Sent (voiceWith (kind .table)) captureForm) (n : ℕ) (ns : List ℕ) →
-    Within (g .l) (n ∷ ns) → (c : List ℕ) → packetsIn c ≡ map (heardOf g) (n ∷ ns) →
-    RecordsGroup (captureRecording kind c) (kind .opening) g (n ∷ ns)
+    Within (g .group .l) (n ∷ ns) → (c : List ℕ) → packetsIn c ≡ map (heardOf g) (n ∷ ns) →
+    RecordsGroup (captureRecording kind c) (kind .opening) (g .group) (n ∷ ns)
 
 -- the packets that have this source
 abbrev pub fromSource : ℕ → List Heard → List Heard

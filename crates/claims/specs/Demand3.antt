@@ -1,143 +1,91 @@
--- Demand 3: a group that our writer made, any part of it offered in any order, repeats allowed, to a session that is ready for it.
--- Over any shape and frame table that has room, and any packet format for which reading after writing holds: that law is the field
--- `read` of `Sent`, and all that is asked of a format.
-use Prim.Native.Nat.{ℕ, _+_, _*_, _%_, _≤_, _<_}
+-- Demand 3, from end to end: "Take one interleave group written by our writer, numbered and stamped as document 01 says, and a session
+-- ready for it, of the form it was written in, under limits that admit it. Offer at least one of its packets, any of them, in any order,
+-- repeats allowed. Poured into a buffer with room, each place has the original frame if its packet was offered and an erasure if not."
+-- Over any builds of the calls that meet their contracts: whatever is written, offered and poured goes through these.
+use Prim.Native.Nat.{ℕ, _+_, _*_, _≤_, _<_}
 use mathlib.Core.Path.{_≡_}
-use mathlib.Core.List.{List, [], _∷_}
-use mathlib.Core.Bool.{Bool, true, false, cond, _||_}
-use lib.Dec.{eqb}
-use lib.ListN.{length}
-use Rattle.frame.specs.FrameTable.{Frame, AllListed, erasure}
-use Rattle.frame.specs.Shape.{Voice, packetsOf}
-use Rattle.frame.specs.Places.{frameAt}
+use mathlib.Core.List.{List, [], _∷_, _++_}
+use lib.ListN.{length, take, drop}
+use Rattle.answers.specs.declared.Written.{Written}
+use Rattle.answers.specs.declared.Written.the-variants.{Octets}
 use Rattle.form.specs.declared.Form.{Form}
-use Rattle.payload.specs.Payload.{packet, readAs}
-use Rattle.packet.specs.Packet.{placeOf, packetFrames}
-use Rattle.answers.specs.Outputs.{octets}
-use Rattle.numbers.specs.Place.{decided}
-use Rattle.numbers.specs.declared.GroupNumbers.{GroupNumbers}
-use Rattle.numbers.specs.declared.Verdict.the-variants.{Begins}
-use Rattle.holding.specs.Group.{isNothing}
-use Rattle.holding.specs.declared.Holding.{Holding}
-use Rattle.pouring.specs.Pouring.{inTime}
-use Rattle.knowledge.specs.Knowledge.{Box, Known, unheard, knownOf}
-use Rattle.session.specs.Session.{isOpen, groupBefore, offered, pourMade}
+use Rattle.form.specs.declared.Form.the-variants.{Interleaved}
+use Rattle.form.specs.declared.Limits.{Limits}
+use Rattle.form.specs.Agreed.{vocoderOf, voiceFor}
+use Rattle.frame.specs.FrameTable.{Frame}
+use Rattle.entries.specs.Kind.{kindOf}
 use Rattle.entries.specs.Entries.{entriesOf}
+use Rattle.numbers.specs.declared.GroupNumbers.{GroupNumbers}
+use Rattle.packet.specs.Packet.{groupIn}
 use Rattle.session.specs.declared.Session.{Session}
 use Rattle.session.specs.declared.Offered.{Offered}
 use Rattle.session.specs.declared.Taken.the-variants.{Accepted}
-use Rattle.claims.specs.Joinings.{HasRoom}
+use Rattle.claims.specs.Call.{Build}
+use Rattle.claims.specs.Calls.Lent.{LentOut}
+use Rattle.claims.specs.Calls.Packet as packet
+use Rattle.claims.specs.Calls.Session as session
 use Rattle.claims.specs.Sessions.{lostBefore, bodyOctets}
+use Rattle.claims.specs.Offering.{numbered, stamped, Ready, Within, PouredPlaces}
+use Rattle.claims.specs.Sending.{AdmitsIn}
+use Rattle.claims.specs.Missing.{OneMissing, Spread}
 
--- a group as it was written: its numbers, its frames in time order, and the payload of each packet, which is read as that packet's frames
-pub record Sent (v : Voice) (form : Form) : Type 0 where
+-- a writer answered the count of these octets, and they stand first in its buffer
+pub record Wrote (x : Written × LentOut) (w : List ℕ) : Type 0 where
+  pub count : x .0 ≡ Octets (length w)
+  pub front : take (length w) (x .1 .out) ≡ w
+
+-- "one interleave group written by our writer": each packet as `packet::write` wrote it, of the same entries, into some buffer
+pub record WrittenGroup (write : Build packet.write) : Type 0 where
   pub source : ℕ
-  pub sequence : ℕ
-  pub timestamp : ℕ
-  pub l : ℕ
-  pub b : ℕ
-  pub frames : List Frame
-  pub payload : ℕ → List ℕ
+  pub numbers : GroupNumbers
+  pub limits : Limits
+  pub entries : List ℕ
   pub d : ℕ → ℕ
-  pub sequence-fits : sequence < 65536
-  pub timestamp-fits : timestamp < 4294967296
-  pub low : l ≤ v .shape .greatest
-  pub some : 1 ≤ b
-  pub few : b ≤ 10
-  pub many : length frames ≡ (l + 1) * b
-  pub listed : AllListed (v .table) frames
-  pub read : (n : ℕ) → n ≤ l → readAs (v .table) form (payload n) ≡ packet l n (d n) (packetFrames l n b frames)
+  pub buffer : ℕ → List ℕ
+  pub payload : ℕ → List ℕ
+  pub sequence-fits : numbers .sequence < 65536
+  pub timestamp-fits : numbers .timestamp < 4294967296
+  pub wrote : (n : ℕ) → n ≤ numbers .l →
+      Wrote (write .run (Interleaved limits, (numbers .l, (n, (numbers .b, (d n, entries))))) (record { out = buffer n })) (payload n)
 
--- the numbers that its packets share
-abbrev pub sentNumbers : {v : Voice} {form : Form} → Sent v form → GroupNumbers
-sentNumbers g = record { sequence = g .sequence; timestamp = g .timestamp; l = g .l; b = g .b }
+-- its original frames, in time order
+abbrev pub originals : {write : Build packet.write} → WrittenGroup write → List Frame
+originals g = groupIn (kindOf (vocoderOf (Interleaved (g .limits)))) (g .entries)
 
--- "numbered and stamped": packet N has the base numbers and N, wrap-around included
-abbrev pub offerOne : {v : Voice} {form : Form} → Session → Sent v form → ℕ → Offered
-offerOne {v} s g n =
-    offered v s (g .source) ((g .sequence + n) % 65536) ((g .timestamp + 160 * n) % 4294967296) (g .payload n)
+-- its packet n, offered through `session::offer`
+abbrev pub offerThrough : {write : Build packet.write} → Build session.offer → WrittenGroup write → Session → ℕ → Offered
+offerThrough offer g s n = offer .run (s, (g .source, (numbered (g .numbers) n, (stamped (g .numbers) n, g .payload n)))) tt .0
 
 -- its packets of these numbers, one after the other
-unfoldable pub offerAll : {v : Voice} {form : Form} → Session → Sent v form → List ℕ → Session
-offerAll s g [] = s
-offerAll s g (n ∷ ns) = offerAll (offerOne s g n .session) g ns
+unfoldable pub offerAllThrough : {write : Build packet.write} → Build session.offer → WrittenGroup write → Session → List ℕ → Session
+offerAllThrough offer g s [] = s
+offerAllThrough offer g s (n ∷ ns) = offerAllThrough offer g (offerThrough offer g s n .session) ns
 
 -- every offer is accepted; the first reports these lost frames, the others none
-unfoldable pub AllAccepted : {v : Voice} {form : Form} → Session → Sent v form → ℕ → List ℕ → Type 0
-AllAccepted s g before [] = Unit {0}
-AllAccepted s g before (n ∷ ns) = (offerOne s g n .answer ≡ Accepted before) × AllAccepted (offerOne s g n .session) g 0 ns
+unfoldable pub AcceptedThrough : {write : Build packet.write} → Build session.offer → WrittenGroup write → Session → ℕ → List ℕ → Type 0
+AcceptedThrough offer g s lost [] = Unit {0}
+AcceptedThrough offer g s lost (n ∷ ns) =
+    (offerThrough offer g s n .answer ≡ Accepted lost) × AcceptedThrough offer g (offerThrough offer g s n .session) 0 ns
 
--- "ready for a group if it is open for its source in the form the group was written in, holds none, and these rules would begin it"
-pub record Ready {v : Voice} {form : Form} (s : Session) (g : Sent v form) : Type 0 where
-  pub opened : isOpen v s ≡ true
-  pub for-source : s .source ≡ g .source
-  pub in-form : s .form ≡ form
-  pub vacant : isNothing (v .shape) (s .group) ≡ true
-  pub reported : ℕ
-  pub would-begin : decided (groupBefore (v .shape) s) (sentNumbers g) ≡ Begins reported
+-- what `session::pour` then leaves in a buffer: the frames of every place, as recording entries, and octets past them as they were
+pub record PouredThrough {write : Build packet.write} (pour : Build session.pour) (g : WrittenGroup write) (s : Session) (ns : List ℕ)
+    : Type 0 where
+  pub frames : List Frame
+  pub places : PouredPlaces frames (originals g) (g .numbers .l) (g .numbers .b) ns
+  pub octet-count : length (entriesOf frames) ≡ (g .numbers .l + 1) * g .numbers .b + bodyOctets frames
+  pub answered : (out : List ℕ) → length (entriesOf frames) ≤ length out →
+      pour .run s (record { out = out }) .0 .answer ≡ Octets (length (entriesOf frames))
+  pub poured : (out : List ℕ) → length (entriesOf frames) ≤ length out →
+      pour .run s (record { out = out }) .1 .out ≡ entriesOf frames ++ drop (length (entriesOf frames)) out
+  -- "If exactly one packet of two or more is missing, exactly as many erasures stand there as a packet has frames, and no two are
+  -- neighbours."
+  pub one-missing : (x : ℕ) → OneMissing (g .numbers .l) ns x → Spread frames (g .numbers .b)
 
--- numbers of packets of the group
-abbrev pub Within : ℕ → List ℕ → Type 0
-Within l [] = Unit {0}
-Within l (n ∷ ns) = (n ≤ l) × Within l ns
-
--- whether packet n is one of these
-abbrev pub among : ℕ → List ℕ → Bool
-among n [] = false
-among n (m ∷ ms) = eqb n m || among n ms
-
--- what is known of packet n as it was sent
-abbrev pub sentPacket : {v : Voice} {form : Form} → Sent v form → ℕ → Known
-sentPacket g n = record { held = true; frames = packetFrames (g .l) n (g .b) (g .frames) }
-
--- what is known of packet n where these were offered
-abbrev pub knowledge : {v : Voice} {form : Form} → Sent v form → List ℕ → ℕ → Known
-knowledge g ns n = cond (among n ns) (sentPacket g n) unheard
-
--- a holding with the group's numbers
-pub record OfGroup {v : Voice} {form : Form} (h : Holding) (g : Sent v form) : Type 0 where
-  pub of-source : h .source ≡ g .source
-  pub base : h .sequence ≡ g .sequence
-  pub time : h .timestamp ≡ g .timestamp
-  pub same-length : h .l ≡ g .l
-  pub same-bundle : h .b ≡ g .b
-
--- a holding of the group that names exactly these packets
-pub record Part {v : Voice} {form : Form} (h : Holding) (g : Sent v form) (ns : List ℕ) : Type 0 where
-  pub box : Box v h
-  pub of-group : OfGroup h g
-  pub knows : (n : ℕ) → n < packetsOf (v .shape) → knownOf v h n ≡ knowledge g ns n
-
--- the session is open as it was, and its holding is the one that names exactly the packets offered
-pub record HoldsExactly {v : Voice} {form : Form} (s : Session) (g : Sent v form) (ns : List ℕ) : Type 0 where
-  pub still-open : isOpen v s ≡ true
-  pub for-source : s .source ≡ g .source
-  pub in-form : s .form ≡ form
-  pub part : Part (s .group) g ns
-
--- each time place has the original frame if its packet was offered, and an erasure if not
-pub record PouredPlaces {v : Voice} {form : Form} (s : Session) (g : Sent v form) (ns : List ℕ) : Type 0 where
-  pub count : length (inTime v (s .group)) ≡ (g .l + 1) * g .b
-  pub original :
-      (n k : ℕ) → n ≤ g .l → k < g .b → among n ns ≡ true →
-      frameAt (inTime v (s .group)) (placeOf (g .l) n k) ≡ frameAt (g .frames) (placeOf (g .l) n k)
-  pub erased :
-      (n k : ℕ) → n ≤ g .l → k < g .b → among n ns ≡ false →
-      frameAt (inTime v (s .group)) (placeOf (g .l) n k) ≡ record { type = erasure; body = [] }
-
--- the third demand: what is offered is accepted, held, and poured, and both counts are those of the formulas
-pub record Delivered {v : Voice} {form : Form} (s : Session) (g : Sent v form) (n : ℕ) (ns : List ℕ) : Type 0 where
-  pub accepted : AllAccepted s g (lostBefore (v .shape) s (sentNumbers g)) (n ∷ ns)
-  pub exactly : HoldsExactly (offerAll s g (n ∷ ns)) g (n ∷ ns)
-  pub places : PouredPlaces (offerAll s g (n ∷ ns)) g (n ∷ ns)
-  pub poured : pourMade v (offerAll s g (n ∷ ns)) ≡ octets (entriesOf (inTime v (offerAll s g (n ∷ ns) .group)))
-  pub octet-count :
-      length (entriesOf (inTime v (offerAll s g (n ∷ ns) .group)))
-      ≡ (g .l + 1) * g .b + bodyOctets (inTime v (offerAll s g (n ∷ ns) .group))
-
--- "one interleave group .. and a session ready for it .. Offer at least one of its packets, any of them, in any order, repeats allowed."
+-- the third demand of the order, of one group
 unfoldable pub Demand3 : Type 0
 Demand3 =
-    (v : Voice) → HasRoom v → (form : Form) (g : Sent v form) (s : Session) → Ready s g → (n : ℕ) (ns : List ℕ) →
-    Within (g .l) (n ∷ ns) →
-    Delivered s g n ns
+    (write : Build packet.write) (offer : Build session.offer) (pour : Build session.pour) (g : WrittenGroup write) →
+    (form : Form) → AdmitsIn (g .numbers .l) (g .numbers .b) form → (s : Session) → Ready (voiceFor form) form s (g .source) (g .numbers) →
+    (n : ℕ) (ns : List ℕ) → Within (g .numbers .l) (n ∷ ns) →
+    AcceptedThrough offer g s (lostBefore (voiceFor form .shape) s (g .numbers)) (n ∷ ns)
+    × PouredThrough pour g (offerAllThrough offer g s (n ∷ ns)) (n ∷ ns)

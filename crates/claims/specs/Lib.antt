@@ -7,9 +7,10 @@ pub mod Payloads
 pub mod Recordings
 pub mod Sessions
 pub mod Joinings
-pub mod Demand3
+pub mod Offering
 pub mod Sending
 pub mod Missing
+pub mod Demand3
 pub mod Boxes
 pub mod Captures
 pub mod Lent

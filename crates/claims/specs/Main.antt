@@ -12,6 +12,7 @@ use Rattle.claims.specs.Packets.{PacketReadAfterWrite, PacketWriteAfterR
 use Rattle.claims.specs.Packets.{HeaderFreeWriteAfterRead}
 use Rattle.claims.specs.Recordings.{RecordingReadAfterWrite, RecordingWriteAfterRead, RecordingSameOctets, OpeningAlone}
 use Rattle.claims.specs.Demand3.{Demand3}
+use Rattle.claims.specs.Offering.{FreshIsReady, OffersDeliver}
 use Rattle.claims.specs.Sending.{WriterSends, HeaderFreeWriterSends, WriterSendsNoErasure, TablesNeverSendErasures}
 use Rattle.claims.specs.Missing.{OneMissingPacket}
 use Rattle.claims.specs.Boxes.{CopiedOut, BoxesJoin}
@@ -64,6 +65,8 @@ pub record Promised : Type 0 where
   pub opening-alone : OpeningAlone
   -- demand 3: "each place has the original frame if its packet was offered and an erasure if not"
   pub demand-3 : Demand3
+  pub fresh-is-ready : FreshIsReady
+  pub offers-deliver : OffersDeliver
   pub writer-sends : WriterSends
   pub header-free-writer-sends : HeaderFreeWriterSends
   pub repeat-changes-nothing : RepeatChangesNothing

@@ -1,5 +1,5 @@
 -- Demand 3: one packet of the group is missing.
-use Prim.Native.Nat.{ℕ, suc, _+_, _*_, _≤_, _<_}
+use Prim.Native.Nat.{ℕ, suc, _+_, _≤_, _<_}
 use mathlib.Core.Path.{_≡_}
 use mathlib.Core.List.{List, [], _∷_}
 use mathlib.Core.Bool.{Bool, true, false, cond}
@@ -12,7 +12,7 @@ use Rattle.form.specs.declared.Form.{Form}
 use Rattle.pouring.specs.Pouring.{inTime}
 use Rattle.session.specs.declared.Session.{Session}
 use Rattle.claims.specs.Joinings.{HasRoom}
-use Rattle.claims.specs.Demand3.{Sent, among, HoldsExactly}
+use Rattle.claims.specs.Offering.{Sent, among, HoldsExactly}
 
 -- whether a frame is an erasure
 abbrev pub isErasure : Frame → Bool
@@ -23,22 +23,24 @@ abbrev pub erasures : List Frame → ℕ
 erasures [] = 0
 erasures (f ∷ fs) = cond (isErasure f) (suc (erasures fs)) (erasures fs)
 
--- "exactly one packet of two or more is missing": of a group without erasures of its own, all packets but x were offered
-pub record OneMissing {v : Voice} {form : Form} (g : Sent v form) (ns : List ℕ) (x : ℕ) : Type 0 where
-  pub two-or-more : 1 ≤ g .l
-  pub in-group : x ≤ g .l
+-- "exactly one packet of two or more is missing": all packets of a group of L but x are among these
+pub record OneMissing (l : ℕ) (ns : List ℕ) (x : ℕ) : Type 0 where
+  pub two-or-more : 1 ≤ l
+  pub in-group : x ≤ l
   pub missing : among x ns ≡ false
-  pub others : (n : ℕ) → n ≤ g .l → (n ≡ x → ⊥) → among n ns ≡ true
-  pub no-erasure : (i : ℕ) → i < length (g .frames) → isErasure (frameAt (g .frames) i) ≡ false
+  pub others : (n : ℕ) → n ≤ l → (n ≡ x → ⊥) → among n ns ≡ true
 
--- "exactly B erasures stand there and no two are neighbours"
-pub record Spread {v : Voice} {form : Form} (s : Session) (g : Sent v form) : Type 0 where
-  pub exactly-b : erasures (inTime v (s .group)) ≡ g .b
-  pub no-neighbours : (t : ℕ) → t + 1 < (g .l + 1) * g .b → isErasure (frameAt (inTime v (s .group)) t) ≡ true →
-      isErasure (frameAt (inTime v (s .group)) (t + 1)) ≡ true → ⊥
+-- frames of which none is an erasure
+unfoldable pub NoErasure : List Frame → Type 0
+NoErasure fs = (i : ℕ) → i < length fs → isErasure (frameAt fs i) ≡ false
 
--- "If exactly one packet of two or more is missing" (the order)
+-- "exactly as many erasures stand there as a packet has frames, and no two are neighbours"
+pub record Spread (poured : List Frame) (b : ℕ) : Type 0 where
+  pub exactly-b : erasures poured ≡ b
+  pub no-neighbours : (t : ℕ) → t + 1 < length poured → isErasure (frameAt poured t) ≡ true → isErasure (frameAt poured (t + 1)) ≡ true → ⊥
+
+-- of a group without erasures of its own
 unfoldable pub OneMissingPacket : Type 0
 OneMissingPacket =
     (v : Voice) → HasRoom v → (form : Form) (g : Sent v form) (s : Session) (ns : List ℕ) → HoldsExactly s g ns →
-    (x : ℕ) → OneMissing g ns x → Spread s g
+    NoErasure (g .group .frames) → (x : ℕ) → OneMissing (g .group .l) ns x → Spread (inTime v (s .group)) (g .group .b)

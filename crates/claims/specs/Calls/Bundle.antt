@@ -1,6 +1,10 @@
 -- Made by tools/calls --write from the sources: the public calls of crates/bundle.
+use Prim.Native.Nat.{ℕ}
 use mathlib.Core.Bool.{Bool}
+use mathlib.Core.List.{List}
+use denote.Ref.{now}
 use Rattle.bundle.specs.declared.Bundle.{Bundle}
+use Rattle.frame.specs.declared.Vocoder.{Vocoder}
 use Rattle.bundle.proofs as contracts
 use Rattle.claims.specs.Call.{Call}
 
@@ -13,6 +17,8 @@ notHeld = record {
   allows = contracts.not_held.Reads.Post;
   Answer = Bundle;
   answer = λ κs x. x;
+  Given = Unit {0};
+  given = λ κs a. tt;
   Lent = Unit {0};
   lent = λ κs a. tt;
   left = λ κs s. tt;
@@ -27,6 +33,8 @@ sameBundles = record {
   allows = contracts.same_bundles.Reads.Post;
   Answer = Bool;
   answer = λ κs x. x;
+  Given = List ℕ × (List ℕ × (List ℕ × List ℕ));
+  given = λ κs a. (now (a .0), (now (a .1 .0), (now (a .1 .1 .0), now (a .1 .1 .1 .0))));
   Lent = Unit {0};
   lent = λ κs a. tt;
   left = λ κs s. tt;
@@ -41,6 +49,8 @@ isNotHeld = record {
   allows = contracts.is_not_held.Reads.Post;
   Answer = Bool;
   answer = λ κs x. x;
+  Given = Vocoder × (List ℕ × List ℕ);
+  given = λ κs a. (a .0, (now (a .1 .0), now (a .1 .1 .0)));
   Lent = Unit {0};
   lent = λ κs a. tt;
   left = λ κs s. tt;
@@ -55,6 +65,8 @@ framesRight = record {
   allows = contracts.frames_right.Reads.Post;
   Answer = Bool;
   answer = λ κs x. x;
+  Given = Vocoder × (ℕ × (List ℕ × List ℕ));
+  given = λ κs a. (a .0, (a .1 .0, (now (a .1 .1 .0), now (a .1 .1 .1 .0))));
   Lent = Unit {0};
   lent = λ κs a. tt;
   left = λ κs s. tt;

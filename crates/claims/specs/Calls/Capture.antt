@@ -17,6 +17,8 @@ room = record {
   allows = contracts.room.Reads.Post;
   Answer = List ℕ;
   answer = λ κs x. x;
+  Given = Unit {0};
+  given = λ κs a. tt;
   Lent = Unit {0};
   lent = λ κs a. tt;
   left = λ κs s. tt;
@@ -31,6 +33,8 @@ judge = record {
   allows = contracts.judge.Reads.Post;
   Answer = Fault;
   answer = λ κs x. x;
+  Given = List ℕ;
+  given = λ κs a. now (a .0);
   Lent = Unit {0};
   lent = λ κs a. tt;
   left = λ κs s. tt;
@@ -45,6 +49,8 @@ abbrev pub «record» : Call
   allows = contracts.«record».Reads.Post;
   Answer = Outcome;
   answer = λ κs x. x;
+  Given = List ℕ;
+  given = λ κs a. now (a .0);
   Lent = LentOut;
   lent = λ κs a. record { out = now (a .1 .0) };
   left = λ κs s. record { out = now (s .1 .0) };

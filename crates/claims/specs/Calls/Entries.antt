@@ -1,7 +1,10 @@
 -- Made by tools/calls --write from the sources: the public calls of crates/entries.
 use Prim.Native.Nat.{ℕ}
+use mathlib.Core.List.{List}
 use denote.Ref.{now}
 use Rattle.entries.specs.declared.Counted.{Counted}
+use Rattle.entries.specs.declared.Rule.{Rule}
+use Rattle.frame.specs.declared.Vocoder.{Vocoder}
 use Rattle.entries.proofs as contracts
 use Rattle.claims.specs.Call.{Call}
 use Rattle.claims.specs.Calls.Lent.{LentOut}
@@ -15,6 +18,8 @@ count = record {
   allows = contracts.count.Reads.Post;
   Answer = Counted;
   answer = λ κs x. x;
+  Given = Vocoder × (Rule × List ℕ);
+  given = λ κs a. (a .0, (a .1 .0, now (a .1 .1 .0)));
   Lent = Unit {0};
   lent = λ κs a. tt;
   left = λ κs s. tt;
@@ -29,6 +34,8 @@ seek = record {
   allows = contracts.seek.Reads.Post;
   Answer = ℕ;
   answer = λ κs x. x;
+  Given = Vocoder × (List ℕ × ℕ);
+  given = λ κs a. (a .0, (now (a .1 .0), a .1 .1 .0));
   Lent = Unit {0};
   lent = λ κs a. tt;
   left = λ κs s. tt;
@@ -43,6 +50,8 @@ writeCleared = record {
   allows = contracts.write_cleared.Reads.Post;
   Answer = Unit {0};
   answer = λ κs x. x;
+  Given = Vocoder × (ℕ × List ℕ);
+  given = λ κs a. (a .0, (a .1 .1 .0, now (a .1 .1 .1 .0)));
   Lent = LentOut;
   lent = λ κs a. record { out = now (a .1 .0) };
   left = λ κs s. record { out = now (s .1 .0) };

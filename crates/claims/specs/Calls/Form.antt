@@ -1,4 +1,5 @@
 -- Made by tools/calls --write from the sources: the public calls of crates/form.
+use Prim.Native.Nat.{ℕ}
 use Rattle.form.specs.declared.Form.{Form}
 use Rattle.form.specs.declared.Limits.{Limits}
 use Rattle.form.specs.declared.Opened.{Opened}
@@ -14,6 +15,8 @@ limitsDefaults = record {
   allows = contracts.Limits.defaults.Reads.Post;
   Answer = Limits;
   answer = λ κs x. x;
+  Given = Unit {0};
+  given = λ κs a. tt;
   Lent = Unit {0};
   lent = λ κs a. tt;
   left = λ κs s. tt;
@@ -28,6 +31,8 @@ limitsOpen = record {
   allows = contracts.Limits.«open».Reads.Post;
   Answer = Opened;
   answer = λ κs x. x;
+  Given = ℕ × ℕ;
+  given = λ κs a. (a .0, a .1 .0);
   Lent = Unit {0};
   lent = λ κs a. tt;
   left = λ κs s. tt;
@@ -42,6 +47,8 @@ formDefaults = record {
   allows = contracts.Form.defaults.Reads.Post;
   Answer = Form;
   answer = λ κs x. x;
+  Given = Unit {0};
+  given = λ κs a. tt;
   Lent = Unit {0};
   lent = λ κs a. tt;
   left = λ κs s. tt;

@@ -3,7 +3,9 @@ use Prim.Native.Nat.{ℕ}
 use mathlib.Core.Bool.{Bool}
 use mathlib.Core.List.{List}
 use denote.Ref.{now, ptr}
+use Rattle.frame.specs.declared.Located.{Located}
 use Rattle.frame.specs.declared.Lookup.{Lookup}
+use Rattle.frame.specs.declared.Vocoder.{Vocoder}
 use Rattle.frame.proofs as contracts
 use Rattle.claims.specs.Call.{Call}
 
@@ -16,6 +18,8 @@ rowOf = record {
   allows = contracts.row_of.Reads.Post;
   Answer = Lookup;
   answer = λ κs x. x;
+  Given = Vocoder × ℕ;
+  given = λ κs a. (a .0, a .1 .0);
   Lent = Unit {0};
   lent = λ κs a. tt;
   left = λ κs s. tt;
@@ -30,6 +34,8 @@ cellOf = record {
   allows = contracts.cell_of.Reads.Post;
   Answer = ℕ;
   answer = λ κs x. x;
+  Given = Vocoder;
+  given = λ κs a. a .0;
   Lent = Unit {0};
   lent = λ κs a. tt;
   left = λ κs s. tt;
@@ -44,6 +50,8 @@ packetsOf = record {
   allows = contracts.packets_of.Reads.Post;
   Answer = ℕ;
   answer = λ κs x. x;
+  Given = Vocoder;
+  given = λ κs a. a .0;
   Lent = Unit {0};
   lent = λ κs a. tt;
   left = λ κs s. tt;
@@ -58,6 +66,8 @@ bodySize = record {
   allows = contracts.body_size.Reads.Post;
   Answer = ℕ;
   answer = λ κs x. x;
+  Given = Vocoder × ℕ;
+  given = λ κs a. (a .0, a .1 .0);
   Lent = Unit {0};
   lent = λ κs a. tt;
   left = λ κs s. tt;
@@ -72,6 +82,8 @@ rowOfSize = record {
   allows = contracts.row_of_size.Reads.Post;
   Answer = Lookup;
   answer = λ κs x. x;
+  Given = Vocoder × ℕ;
+  given = λ κs a. (a .0, a .1 .0);
   Lent = Unit {0};
   lent = λ κs a. tt;
   left = λ κs s. tt;
@@ -86,6 +98,8 @@ lowBits = record {
   allows = contracts.low_bits.Reads.Post;
   Answer = ℕ;
   answer = λ κs x. x;
+  Given = ℕ × ℕ;
+  given = λ κs a. (a .0, a .1 .0);
   Lent = Unit {0};
   lent = λ κs a. tt;
   left = λ κs s. tt;
@@ -100,6 +114,8 @@ isSendable = record {
   allows = contracts.is_sendable.Reads.Post;
   Answer = Bool;
   answer = λ κs x. x;
+  Given = Vocoder × (ℕ × List ℕ);
+  given = λ κs a. (a .0, (a .1 .0, now (a .1 .1 .0)));
   Lent = Unit {0};
   lent = λ κs a. tt;
   left = λ κs s. tt;
@@ -114,6 +130,8 @@ part = record {
   allows = contracts.part.Reads.Post;
   Answer = List ℕ × (ℕ × ℕ);
   answer = λ κs x. (now x, ptr x);
+  Given = List ℕ × Located;
+  given = λ κs a. (now (a .0), a .1 .0);
   Lent = Unit {0};
   lent = λ κs a. tt;
   left = λ κs s. tt;

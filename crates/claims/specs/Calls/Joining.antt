@@ -1,4 +1,5 @@
 -- Made by tools/calls --write from the sources: the public calls of crates/joining.
+use Rattle.holding.specs.declared.Holding.{Holding}
 use Rattle.joining.specs.declared.Joined.{Joined}
 use Rattle.joining.proofs as contracts
 use Rattle.claims.specs.Call.{Call}
@@ -12,6 +13,8 @@ join = record {
   allows = contracts.join.Reads.Post;
   Answer = Joined;
   answer = λ κs x. x;
+  Given = Holding × Holding;
+  given = λ κs a. (a .0, a .1 .0);
   Lent = Unit {0};
   lent = λ κs a. tt;
   left = λ κs s. tt;

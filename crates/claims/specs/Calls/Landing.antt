@@ -1,5 +1,6 @@
 -- Made by tools/calls --write from the sources: the public calls of crates/landing.
 use Prim.Native.Nat.{ℕ}
+use mathlib.Core.List.{List}
 use denote.Ref.{now}
 use Rattle.landing.proofs as contracts
 use Rattle.claims.specs.Call.{Call}
@@ -15,6 +16,8 @@ lvPayloadRead = record {
   allows = contracts.lv_payload_read.Reads.Post;
   Answer = ℕ;
   answer = λ κs x. x;
+  Given = ℕ × (ℕ × (ℕ × List ℕ));
+  given = λ κs a. (a .0, (a .1 .0, (a .1 .1 .0, now (a .1 .1 .1 .0))));
   Lent = LentLNBD;
   lent = λ κs a. record {
     l = now (a .1 .1 .1 .1 .0);
@@ -39,6 +42,8 @@ lvPayloadFrame = record {
   allows = contracts.lv_payload_frame.Reads.Post;
   Answer = ℕ;
   answer = λ κs x. x;
+  Given = ℕ × (ℕ × (ℕ × (List ℕ × ℕ)));
+  given = λ κs a. (a .0, (a .1 .0, (a .1 .1 .0, (now (a .1 .1 .1 .0), a .1 .1 .1 .1 .0))));
   Lent = LentKindStartSize;
   lent = λ κs a. record { kind = now (a .1 .1 .1 .1 .1 .0); start = now (a .1 .1 .1 .1 .1 .1 .0); size = now (a .1 .1 .1 .1 .1 .1 .1 .0) };
   left = λ κs s. record { kind = now (s .1 .1 .1 .1 .1 .0); start = now (s .1 .1 .1 .1 .1 .1 .0); size = now (s .1 .1 .1 .1 .1 .1 .1 .0) };
@@ -53,6 +58,8 @@ lvRecordingRead = record {
   allows = contracts.lv_recording_read.Reads.Post;
   Answer = ℕ;
   answer = λ κs x. x;
+  Given = List ℕ;
+  given = λ κs a. now (a .0);
   Lent = LentCount;
   lent = λ κs a. record { count = now (a .1 .0) };
   left = λ κs s. record { count = now (s .1 .0) };
@@ -67,6 +74,8 @@ lvRecordingFrame = record {
   allows = contracts.lv_recording_frame.Reads.Post;
   Answer = ℕ;
   answer = λ κs x. x;
+  Given = List ℕ × ℕ;
+  given = λ κs a. (now (a .0), a .1 .0);
   Lent = LentKindStartSize;
   lent = λ κs a. record { kind = now (a .1 .1 .0); start = now (a .1 .1 .1 .0); size = now (a .1 .1 .1 .1 .0) };
   left = λ κs s. record { kind = now (s .1 .1 .0); start = now (s .1 .1 .1 .0); size = now (s .1 .1 .1 .1 .0) };
@@ -81,6 +90,8 @@ lvRecordingWrite = record {
   allows = contracts.lv_recording_write.Reads.Post;
   Answer = ℕ;
   answer = λ κs x. x;
+  Given = List ℕ;
+  given = λ κs a. now (a .0);
   Lent = LentOutWritten;
   lent = λ κs a. record { out = now (a .1 .0); written = now (a .1 .1 .0) };
   left = λ κs s. record { out = now (s .1 .0); written = now (s .1 .1 .0) };
@@ -95,6 +106,29 @@ lvPacketWrite = record {
   allows = contracts.lv_packet_write.Reads.Post;
   Answer = ℕ;
   answer = λ κs x. x;
+  Given = ℕ × (ℕ × (ℕ × (ℕ × (ℕ × (ℕ × (ℕ × List ℕ))))));
+  given = λ κs a. (
+    a .0,
+    (
+      a .1 .0,
+      (
+        a .1 .1 .0,
+        (
+          a .1 .1 .1 .0,
+          (
+            a .1 .1 .1 .1 .0,
+            (
+              a .1 .1 .1 .1 .1 .0,
+              (
+                a .1 .1 .1 .1 .1 .1 .0,
+                now (a .1 .1 .1 .1 .1 .1 .1 .0),
+              ),
+            ),
+          ),
+        ),
+      ),
+    ),
+  );
   Lent = LentOutWritten;
   lent = λ κs a. record { out = now (a .1 .1 .1 .1 .1 .1 .1 .1 .0); written = now (a .1 .1 .1 .1 .1 .1 .1 .1 .1 .0) };
   left = λ κs s. record { out = now (s .1 .1 .1 .1 .1 .1 .1 .1 .0); written = now (s .1 .1 .1 .1 .1 .1 .1 .1 .1 .0) };
@@ -109,6 +143,8 @@ lvPacketWriteHeaderFree = record {
   allows = contracts.lv_packet_write_header_free.Reads.Post;
   Answer = ℕ;
   answer = λ κs x. x;
+  Given = ℕ × (ℕ × (ℕ × List ℕ));
+  given = λ κs a. (a .0, (a .1 .0, (a .1 .1 .0, now (a .1 .1 .1 .0))));
   Lent = LentOutWritten;
   lent = λ κs a. record { out = now (a .1 .1 .1 .1 .0); written = now (a .1 .1 .1 .1 .1 .0) };
   left = λ κs s. record { out = now (s .1 .1 .1 .1 .0); written = now (s .1 .1 .1 .1 .1 .0) };
@@ -123,6 +159,8 @@ lvCaptureRecord = record {
   allows = contracts.lv_capture_record.Reads.Post;
   Answer = ℕ;
   answer = λ κs x. x;
+  Given = List ℕ;
+  given = λ κs a. now (a .0);
   Lent = LentOutWritten;
   lent = λ κs a. record { out = now (a .1 .0); written = now (a .1 .1 .0) };
   left = λ κs s. record { out = now (s .1 .0); written = now (s .1 .1 .0) };
@@ -137,6 +175,8 @@ lvSessionOpen = record {
   allows = contracts.lv_session_open.Reads.Post;
   Answer = ℕ;
   answer = λ κs x. x;
+  Given = ℕ × (ℕ × (ℕ × ℕ));
+  given = λ κs a. (a .0, (a .1 .0, (a .1 .1 .0, a .1 .1 .1 .0)));
   Lent = LentSession;
   lent = λ κs a. record { session = now (a .1 .1 .1 .1 .0) };
   left = λ κs s. record { session = now (s .1 .1 .1 .1 .0) };
@@ -151,6 +191,8 @@ lvSessionOffer = record {
   allows = contracts.lv_session_offer.Reads.Post;
   Answer = ℕ;
   answer = λ κs x. x;
+  Given = ℕ × (ℕ × (ℕ × List ℕ));
+  given = λ κs a. (a .1 .0, (a .1 .1 .0, (a .1 .1 .1 .0, now (a .1 .1 .1 .1 .0))));
   Lent = LentSessionLost;
   lent = λ κs a. record { session = now (a .0); lost = now (a .1 .1 .1 .1 .1 .0) };
   left = λ κs s. record { session = now (s .0); lost = now (s .1 .1 .1 .1 .1 .0) };
@@ -165,6 +207,8 @@ lvSessionPour = record {
   allows = contracts.lv_session_pour.Reads.Post;
   Answer = ℕ;
   answer = λ κs x. x;
+  Given = Unit {0};
+  given = λ κs a. tt;
   Lent = LentSessionOutWritten;
   lent = λ κs a. record { session = now (a .0); out = now (a .1 .0); written = now (a .1 .1 .0) };
   left = λ κs s. record { session = now (s .0); out = now (s .1 .0); written = now (s .1 .1 .0) };
@@ -179,6 +223,8 @@ lvSessionCopy = record {
   allows = contracts.lv_session_copy.Reads.Post;
   Answer = ℕ;
   answer = λ κs x. x;
+  Given = List ℕ;
+  given = λ κs a. now (a .0);
   Lent = LentHolding;
   lent = λ κs a. record { holding = now (a .1 .0) };
   left = λ κs s. record { holding = now (s .1 .0) };
@@ -193,6 +239,8 @@ lvSessionEnd = record {
   allows = contracts.lv_session_end.Reads.Post;
   Answer = ℕ;
   answer = λ κs x. x;
+  Given = Unit {0};
+  given = λ κs a. tt;
   Lent = LentSession;
   lent = λ κs a. record { session = now (a .0) };
   left = λ κs s. record { session = now (s .0) };
@@ -207,6 +255,8 @@ lvHoldingJoin = record {
   allows = contracts.lv_holding_join.Reads.Post;
   Answer = ℕ;
   answer = λ κs x. x;
+  Given = List ℕ × List ℕ;
+  given = λ κs a. (now (a .0), now (a .1 .0));
   Lent = LentOut;
   lent = λ κs a. record { out = now (a .1 .1 .0) };
   left = λ κs s. record { out = now (s .1 .1 .0) };
@@ -221,6 +271,8 @@ lvHoldingPour = record {
   allows = contracts.lv_holding_pour.Reads.Post;
   Answer = ℕ;
   answer = λ κs x. x;
+  Given = List ℕ;
+  given = λ κs a. now (a .0);
   Lent = LentOutWritten;
   lent = λ κs a. record { out = now (a .1 .0); written = now (a .1 .1 .0) };
   left = λ κs s. record { out = now (s .1 .0); written = now (s .1 .1 .0) };

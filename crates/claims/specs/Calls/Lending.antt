@@ -1,7 +1,10 @@
 -- Made by tools/calls --write from the sources: the public calls of crates/lending.
+use Prim.Native.Nat.{ℕ}
+use mathlib.Core.List.{List}
 use denote.Ref.{now}
 use Rattle.answers.specs.declared.Answer.{Answer}
 use Rattle.answers.specs.declared.Written.{Written}
+use Rattle.form.specs.declared.Form.{Form}
 use Rattle.session.specs.declared.Taken.{Taken}
 use Rattle.lending.proofs as contracts
 use Rattle.claims.specs.Call.{Call}
@@ -16,6 +19,8 @@ abbrev pub «open» : Call
   allows = contracts.«open».Reads.Post;
   Answer = Answer;
   answer = λ κs x. x;
+  Given = ℕ × Form;
+  given = λ κs a. (a .1 .0, a .1 .1 .0);
   Lent = LentSession;
   lent = λ κs a. record { session = now (a .0) };
   left = λ κs s. record { session = now (s .0) };
@@ -30,6 +35,8 @@ offer = record {
   allows = contracts.offer.Reads.Post;
   Answer = Taken;
   answer = λ κs x. x;
+  Given = ℕ × (ℕ × (ℕ × List ℕ));
+  given = λ κs a. (a .1 .0, (a .1 .1 .0, (a .1 .1 .1 .0, now (a .1 .1 .1 .1 .0))));
   Lent = LentSession;
   lent = λ κs a. record { session = now (a .0) };
   left = λ κs s. record { session = now (s .0) };
@@ -44,6 +51,8 @@ pour = record {
   allows = contracts.pour.Reads.Post;
   Answer = Written;
   answer = λ κs x. x;
+  Given = Unit {0};
+  given = λ κs a. tt;
   Lent = LentSessionOut;
   lent = λ κs a. record { session = now (a .0); out = now (a .1 .0) };
   left = λ κs s. record { session = now (s .0); out = now (s .1 .0) };
@@ -58,6 +67,8 @@ copyOut = record {
   allows = contracts.copy_out.Reads.Post;
   Answer = Answer;
   answer = λ κs x. x;
+  Given = List ℕ;
+  given = λ κs a. now (a .0);
   Lent = LentOut;
   lent = λ κs a. record { out = now (a .1 .0) };
   left = λ κs s. record { out = now (s .1 .0) };
@@ -72,6 +83,8 @@ end = record {
   allows = contracts.end.Reads.Post;
   Answer = Answer;
   answer = λ κs x. x;
+  Given = Unit {0};
+  given = λ κs a. tt;
   Lent = LentSession;
   lent = λ κs a. record { session = now (a .0) };
   left = λ κs s. record { session = now (s .0) };
@@ -86,6 +99,8 @@ join = record {
   allows = contracts.join.Reads.Post;
   Answer = Answer;
   answer = λ κs x. x;
+  Given = List ℕ × List ℕ;
+  given = λ κs a. (now (a .0), now (a .1 .0));
   Lent = LentOut;
   lent = λ κs a. record { out = now (a .1 .1 .0) };
   left = λ κs s. record { out = now (s .1 .1 .0) };
@@ -100,6 +115,8 @@ pourHolding = record {
   allows = contracts.pour_holding.Reads.Post;
   Answer = Written;
   answer = λ κs x. x;
+  Given = List ℕ;
+  given = λ κs a. now (a .0);
   Lent = LentOut;
   lent = λ κs a. record { out = now (a .1 .0) };
   left = λ κs s. record { out = now (s .1 .0) };

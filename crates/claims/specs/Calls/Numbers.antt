@@ -1,5 +1,7 @@
 -- Made by tools/calls --write from the sources: the public calls of crates/numbers.
 use Prim.Native.Nat.{ℕ}
+use Rattle.numbers.specs.declared.Before.{Before}
+use Rattle.numbers.specs.declared.GroupNumbers.{GroupNumbers}
 use Rattle.numbers.specs.declared.Verdict.{Verdict}
 use Rattle.numbers.proofs as contracts
 use Rattle.claims.specs.Call.{Call}
@@ -13,6 +15,8 @@ baseSequence = record {
   allows = contracts.base_sequence.Reads.Post;
   Answer = ℕ;
   answer = λ κs x. x;
+  Given = ℕ × ℕ;
+  given = λ κs a. (a .0, a .1 .0);
   Lent = Unit {0};
   lent = λ κs a. tt;
   left = λ κs s. tt;
@@ -27,6 +31,8 @@ baseTimestamp = record {
   allows = contracts.base_timestamp.Reads.Post;
   Answer = ℕ;
   answer = λ κs x. x;
+  Given = ℕ × ℕ;
+  given = λ κs a. (a .0, a .1 .0);
   Lent = Unit {0};
   lent = λ κs a. tt;
   left = λ κs s. tt;
@@ -41,6 +47,8 @@ withHeld = record {
   allows = contracts.with_held.Reads.Post;
   Answer = Verdict;
   answer = λ κs x. x;
+  Given = GroupNumbers × GroupNumbers;
+  given = λ κs a. (a .0, a .1 .0);
   Lent = Unit {0};
   lent = λ κs a. tt;
   left = λ κs s. tt;
@@ -55,6 +63,8 @@ afterPoured = record {
   allows = contracts.after_poured.Reads.Post;
   Answer = Verdict;
   answer = λ κs x. x;
+  Given = GroupNumbers × GroupNumbers;
+  given = λ κs a. (a .0, a .1 .0);
   Lent = Unit {0};
   lent = λ κs a. tt;
   left = λ κs s. tt;
@@ -69,6 +79,8 @@ decide = record {
   allows = contracts.decide.Reads.Post;
   Answer = Verdict;
   answer = λ κs x. x;
+  Given = Before × GroupNumbers;
+  given = λ κs a. (a .0, a .1 .0);
   Lent = Unit {0};
   lent = λ κs a. tt;
   left = λ κs s. tt;

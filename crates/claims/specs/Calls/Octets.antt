@@ -1,6 +1,7 @@
 -- Made by tools/calls --write from the sources: the public calls of crates/octets.
 use Prim.Native.Nat.{ℕ}
 use mathlib.Core.Bool.{Bool}
+use mathlib.Core.List.{List}
 use denote.Ref.{now}
 use Rattle.octets.proofs as contracts
 use Rattle.claims.specs.Call.{Call}
@@ -15,6 +16,8 @@ copy = record {
   allows = contracts.copy.Reads.Post;
   Answer = Unit {0};
   answer = λ κs x. x;
+  Given = ℕ × List ℕ;
+  given = λ κs a. (a .1 .0, now (a .1 .1 .0));
   Lent = LentDst;
   lent = λ κs a. record { dst = now (a .0) };
   left = λ κs s. record { dst = now (s .0) };
@@ -29,6 +32,8 @@ fill = record {
   allows = contracts.fill.Reads.Post;
   Answer = Unit {0};
   answer = λ κs x. x;
+  Given = ℕ × (ℕ × ℕ);
+  given = λ κs a. (a .1 .0, (a .1 .1 .0, a .1 .1 .1 .0));
   Lent = LentDst;
   lent = λ κs a. record { dst = now (a .0) };
   left = λ κs s. record { dst = now (s .0) };
@@ -43,6 +48,8 @@ copyShifted = record {
   allows = contracts.copy_shifted.Reads.Post;
   Answer = Unit {0};
   answer = λ κs x. x;
+  Given = ℕ × (List ℕ × ℕ);
+  given = λ κs a. (a .1 .0, (now (a .1 .1 .0), a .1 .1 .1 .0));
   Lent = LentDst;
   lent = λ κs a. record { dst = now (a .0) };
   left = λ κs s. record { dst = now (s .0) };
@@ -57,6 +64,8 @@ same = record {
   allows = contracts.same.Reads.Post;
   Answer = Bool;
   answer = λ κs x. x;
+  Given = List ℕ × List ℕ;
+  given = λ κs a. (now (a .0), now (a .1 .0));
   Lent = Unit {0};
   lent = λ κs a. tt;
   left = λ κs s. tt;
@@ -71,6 +80,8 @@ zeros = record {
   allows = contracts.zeros.Reads.Post;
   Answer = Bool;
   answer = λ κs x. x;
+  Given = List ℕ;
+  given = λ κs a. now (a .0);
   Lent = Unit {0};
   lent = λ κs a. tt;
   left = λ κs s. tt;
@@ -85,6 +96,8 @@ any = record {
   allows = contracts.any.Reads.Post;
   Answer = Bool;
   answer = λ κs x. x;
+  Given = List Bool;
+  given = λ κs a. now (a .0);
   Lent = Unit {0};
   lent = λ κs a. tt;
   left = λ κs s. tt;
@@ -99,6 +112,8 @@ two = record {
   allows = contracts.two.Reads.Post;
   Answer = ℕ;
   answer = λ κs x. x;
+  Given = List ℕ × ℕ;
+  given = λ κs a. (now (a .0), a .1 .0);
   Lent = Unit {0};
   lent = λ κs a. tt;
   left = λ κs s. tt;
@@ -113,6 +128,8 @@ four = record {
   allows = contracts.four.Reads.Post;
   Answer = ℕ;
   answer = λ κs x. x;
+  Given = List ℕ × ℕ;
+  given = λ κs a. (now (a .0), a .1 .0);
   Lent = Unit {0};
   lent = λ κs a. tt;
   left = λ κs s. tt;
@@ -127,6 +144,8 @@ putTwo = record {
   allows = contracts.put_two.Reads.Post;
   Answer = Unit {0};
   answer = λ κs x. x;
+  Given = ℕ × ℕ;
+  given = λ κs a. (a .1 .0, a .1 .1 .0);
   Lent = LentDst;
   lent = λ κs a. record { dst = now (a .0) };
   left = λ κs s. record { dst = now (s .0) };
@@ -141,6 +160,8 @@ putFour = record {
   allows = contracts.put_four.Reads.Post;
   Answer = Unit {0};
   answer = λ κs x. x;
+  Given = ℕ × ℕ;
+  given = λ κs a. (a .1 .0, a .1 .1 .0);
   Lent = LentDst;
   lent = λ κs a. record { dst = now (a .0) };
   left = λ κs s. record { dst = now (s .0) };

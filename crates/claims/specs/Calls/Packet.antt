@@ -1,6 +1,9 @@
 -- Made by tools/calls --write from the sources: the public calls of crates/packet.
+use Prim.Native.Nat.{ℕ}
+use mathlib.Core.List.{List}
 use denote.Ref.{now}
 use Rattle.answers.specs.declared.Written.{Written}
+use Rattle.form.specs.declared.Form.{Form}
 use Rattle.packet.proofs as contracts
 use Rattle.claims.specs.Call.{Call}
 use Rattle.claims.specs.Calls.Lent.{LentOut}
@@ -14,6 +17,8 @@ write = record {
   allows = contracts.write.Reads.Post;
   Answer = Written;
   answer = λ κs x. x;
+  Given = Form × (ℕ × (ℕ × (ℕ × (ℕ × List ℕ))));
+  given = λ κs a. (a .0, (a .1 .0, (a .1 .1 .0, (a .1 .1 .1 .0, (a .1 .1 .1 .1 .0, now (a .1 .1 .1 .1 .1 .0))))));
   Lent = LentOut;
   lent = λ κs a. record { out = now (a .1 .1 .1 .1 .1 .1 .0) };
   left = λ κs s. record { out = now (s .1 .1 .1 .1 .1 .1 .0) };
@@ -28,6 +33,8 @@ writeHeaderFree = record {
   allows = contracts.write_header_free.Reads.Post;
   Answer = Written;
   answer = λ κs x. x;
+  Given = Form × List ℕ;
+  given = λ κs a. (a .0, now (a .1 .0));
   Lent = LentOut;
   lent = λ κs a. record { out = now (a .1 .1 .0) };
   left = λ κs s. record { out = now (s .1 .1 .0) };

@@ -3,6 +3,7 @@ use Prim.Native.Nat.{ℕ}
 use mathlib.Core.List.{List}
 use denote.Ref.{now, ptr}
 use Rattle.bundle.specs.declared.Bundle.{Bundle}
+use Rattle.form.specs.declared.Form.{Form}
 use Rattle.frame.specs.declared.Located.{Located}
 use Rattle.payload.specs.declared.Contents.{Contents}
 use Rattle.payload.proofs as contracts
@@ -17,6 +18,8 @@ read = record {
   allows = contracts.read.Reads.Post;
   Answer = Contents;
   answer = λ κs x. x;
+  Given = Form × List ℕ;
+  given = λ κs a. (a .0, now (a .1 .0));
   Lent = Unit {0};
   lent = λ κs a. tt;
   left = λ κs s. tt;
@@ -31,6 +34,8 @@ locate = record {
   allows = contracts.locate.Reads.Post;
   Answer = Located;
   answer = λ κs x. x;
+  Given = Form × (List ℕ × ℕ);
+  given = λ κs a. (a .0, (now (a .1 .0), a .1 .1 .0));
   Lent = Unit {0};
   lent = λ κs a. tt;
   left = λ κs s. tt;
@@ -45,6 +50,8 @@ body = record {
   allows = contracts.body.Reads.Post;
   Answer = List ℕ × (ℕ × ℕ);
   answer = λ κs x. (now x, ptr x);
+  Given = Form × (List ℕ × ℕ);
+  given = λ κs a. (a .0, (now (a .1 .0), a .1 .1 .0));
   Lent = Unit {0};
   lent = λ κs a. tt;
   left = λ κs s. tt;
@@ -59,6 +66,8 @@ layOut = record {
   allows = contracts.lay_out.Reads.Post;
   Answer = Bundle;
   answer = λ κs x. x;
+  Given = Form × List ℕ;
+  given = λ κs a. (a .0, now (a .1 .0));
   Lent = Unit {0};
   lent = λ κs a. tt;
   left = λ κs s. tt;

@@ -1,6 +1,7 @@
 -- Made by tools/calls --write from the sources: the public calls of crates/pouring.
 use denote.Ref.{now}
 use Rattle.answers.specs.declared.Written.{Written}
+use Rattle.holding.specs.declared.Holding.{Holding}
 use Rattle.pouring.proofs as contracts
 use Rattle.claims.specs.Call.{Call}
 use Rattle.claims.specs.Calls.Lent.{LentOut}
@@ -14,6 +15,8 @@ pour = record {
   allows = contracts.pour.Reads.Post;
   Answer = Written;
   answer = λ κs x. x;
+  Given = Holding;
+  given = λ κs a. a .0;
   Lent = LentOut;
   lent = λ κs a. record { out = now (a .1 .0) };
   left = λ κs s. record { out = now (s .1 .0) };

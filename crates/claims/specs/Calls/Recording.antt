@@ -5,6 +5,7 @@ use denote.Ref.{now, ptr}
 use Rattle.answers.specs.declared.Written.{Written}
 use Rattle.entries.specs.declared.Counted.{Counted}
 use Rattle.frame.specs.declared.Located.{Located}
+use Rattle.frame.specs.declared.Vocoder.{Vocoder}
 use Rattle.recording.proofs as contracts
 use Rattle.claims.specs.Call.{Call}
 use Rattle.claims.specs.Calls.Lent.{LentOut}
@@ -18,6 +19,8 @@ read = record {
   allows = contracts.read.Reads.Post;
   Answer = Counted;
   answer = λ κs x. x;
+  Given = Vocoder × List ℕ;
+  given = λ κs a. (a .0, now (a .1 .0));
   Lent = Unit {0};
   lent = λ κs a. tt;
   left = λ κs s. tt;
@@ -32,6 +35,8 @@ locate = record {
   allows = contracts.locate.Reads.Post;
   Answer = Located;
   answer = λ κs x. x;
+  Given = Vocoder × (List ℕ × ℕ);
+  given = λ κs a. (a .0, (now (a .1 .0), a .1 .1 .0));
   Lent = Unit {0};
   lent = λ κs a. tt;
   left = λ κs s. tt;
@@ -46,6 +51,8 @@ body = record {
   allows = contracts.body.Reads.Post;
   Answer = List ℕ × (ℕ × ℕ);
   answer = λ κs x. (now x, ptr x);
+  Given = Vocoder × (List ℕ × ℕ);
+  given = λ κs a. (a .0, (now (a .1 .0), a .1 .1 .0));
   Lent = Unit {0};
   lent = λ κs a. tt;
   left = λ κs s. tt;
@@ -60,6 +67,8 @@ write = record {
   allows = contracts.write.Reads.Post;
   Answer = Written;
   answer = λ κs x. x;
+  Given = Vocoder × List ℕ;
+  given = λ κs a. (a .0, now (a .1 .0));
   Lent = LentOut;
   lent = λ κs a. record { out = now (a .1 .1 .0) };
   left = λ κs s. record { out = now (s .1 .1 .0) };

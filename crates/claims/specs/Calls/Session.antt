@@ -1,6 +1,9 @@
 -- Made by tools/calls --write from the sources: the public calls of crates/session.
+use Prim.Native.Nat.{ℕ}
 use mathlib.Core.Bool.{Bool}
+use mathlib.Core.List.{List}
 use denote.Ref.{now}
+use Rattle.form.specs.declared.Form.{Form}
 use Rattle.session.specs.declared.Copied.{Copied}
 use Rattle.session.specs.declared.Offered.{Offered}
 use Rattle.session.specs.declared.Poured.{Poured}
@@ -19,6 +22,8 @@ neverOpened = record {
   allows = contracts.never_opened.Reads.Post;
   Answer = Session;
   answer = λ κs x. x;
+  Given = Unit {0};
+  given = λ κs a. tt;
   Lent = Unit {0};
   lent = λ κs a. tt;
   left = λ κs s. tt;
@@ -33,6 +38,8 @@ abbrev pub «open» : Call
   allows = contracts.«open».Reads.Post;
   Answer = Started;
   answer = λ κs x. x;
+  Given = Session × (ℕ × Form);
+  given = λ κs a. (a .0, (a .1 .0, a .1 .1 .0));
   Lent = Unit {0};
   lent = λ κs a. tt;
   left = λ κs s. tt;
@@ -47,6 +54,8 @@ isOpen = record {
   allows = contracts.is_open.Reads.Post;
   Answer = Bool;
   answer = λ κs x. x;
+  Given = Session;
+  given = λ κs a. a .0;
   Lent = Unit {0};
   lent = λ κs a. tt;
   left = λ κs s. tt;
@@ -61,6 +70,8 @@ offer = record {
   allows = contracts.offer.Reads.Post;
   Answer = Offered;
   answer = λ κs x. x;
+  Given = Session × (ℕ × (ℕ × (ℕ × List ℕ)));
+  given = λ κs a. (a .0, (a .1 .0, (a .1 .1 .0, (a .1 .1 .1 .0, now (a .1 .1 .1 .1 .0)))));
   Lent = Unit {0};
   lent = λ κs a. tt;
   left = λ κs s. tt;
@@ -75,6 +86,8 @@ pour = record {
   allows = contracts.pour.Reads.Post;
   Answer = Poured;
   answer = λ κs x. x;
+  Given = Session;
+  given = λ κs a. a .0;
   Lent = LentOut;
   lent = λ κs a. record { out = now (a .1 .0) };
   left = λ κs s. record { out = now (s .1 .0) };
@@ -89,6 +102,8 @@ copyOut = record {
   allows = contracts.copy_out.Reads.Post;
   Answer = Copied;
   answer = λ κs x. x;
+  Given = Session;
+  given = λ κs a. a .0;
   Lent = Unit {0};
   lent = λ κs a. tt;
   left = λ κs s. tt;
@@ -103,6 +118,8 @@ end = record {
   allows = contracts.end.Reads.Post;
   Answer = Session;
   answer = λ κs x. x;
+  Given = Session;
+  given = λ κs a. a .0;
   Lent = Unit {0};
   lent = λ κs a. tt;
   left = λ κs s. tt;

@@ -1,0 +1,48 @@
+-- What a build of a call does, by the contract that it meets. Assumes nothing.
+use Prim.Native.Nat.{ℕ}
+use mathlib.Core.Path.{_≡_, subst}
+use mathlib.Core.List.{List}
+use contract.Lifetimes.{Lfts}
+use Rattle.answers.specs.Outputs.{Writes}
+use Rattle.entries.specs.Kind.{kindOf}
+use Rattle.form.specs.declared.Form.{Form}
+use Rattle.form.specs.Agreed.{vocoderOf, voiceFor}
+use Rattle.frame.specs.Shape.{holdingShape}
+use Rattle.packet.specs.Writing.{packetMade}
+use Rattle.session.specs.Session.{offered, pourMade, afterPour}
+use Rattle.session.specs.declared.Session.{Session}
+use Rattle.claims.specs.Call.{Call, Passed, Returned, Ended, Outcome, Build}
+use Rattle.claims.specs.Calls.Packet as packet
+use Rattle.claims.specs.Calls.Session as session
+
+in-all : {A B C D : Type 0} (P : A → B → C → D → Type 0) (a a′ : A) (b b′ : B) (c c′ : C) (d d′ : D) → a ≡ a′ → b ≡ b′ → c ≡ c′ → d ≡ d′ → P a b c d → P a′ b′ c′ d′
+in-all P a a′ b b′ c c′ d d′ p q r s x =
+    subst (λ i. P i b′ c′ d′) p (subst (λ i. P a i c′ d′) q (subst (λ i. P a b i d′) r (subst (λ i. P a b c i) s x)))
+
+-- what a contract tells of all that is passed holds of what is given, lent, answered and left
+pub by-name : {call : Call} (P : call .Given → call .Lent → call .Answer → call .Lent → Type 0) →
+    ((κs : Lfts (call .lifetimes)) (a : Passed call κs) (x : Returned call κs) (e : Ended call κs) → call .allows κs a x e →
+    P (call .given κs a) (call .lent κs a) (call .answer κs x) (call .left κs e)) →
+    {given : call .Given} {lent : call .Lent} {answer : call .Answer} {left : call .Lent} → Outcome call given lent answer left → P given lent answer left
+by-name P tells o = in-all P _ _ _ _ _ _ _ _ (o .is-given) (o .is-lent) (o .is-answer) (o .is-left) (tells _ _ _ _ (o .allowed))
+
+-- ---- writing a packet, offering, pouring
+pub writes-so : (build : Build packet.write) (form : Form) (l n b d : ℕ) (es out : List ℕ) →
+    let r = build .run (form, (l, (n, (b, (d, es))))) (record { out = out }) in
+    Writes (packetMade (kindOf (vocoderOf form)) form l n b d es) out (r .0) (r .1 .out)
+writes-so build form l n b d es out =
+    by-name (λ g o x y. Writes (packetMade (kindOf (vocoderOf (g .0))) (g .0) (g .1 .0) (g .1 .1 .0) (g .1 .1 .1 .0) (g .1 .1 .1 .1 .0) (g .1 .1 .1 .1 .1)) (o .out) x (y .out))
+    (λ κs a x e p. p) (build .meets (form, (l, (n, (b, (d, es))))) (record { out = out }))
+
+pub offers-so : (build : Build session.offer) (s : Session) (source sequence timestamp : ℕ) (p : List ℕ) →
+    build .run (s, (source, (sequence, (timestamp, p)))) tt .0 ≡ offered (voiceFor (s .form)) s source sequence timestamp p
+offers-so build s source sequence timestamp p =
+    by-name (λ g o x y. x ≡ offered (voiceFor (g .0 .form)) (g .0) (g .1 .0) (g .1 .1 .0) (g .1 .1 .1 .0) (g .1 .1 .1 .1))
+    (λ κs a x e p. p) (build .meets (s, (source, (sequence, (timestamp, p)))) tt)
+
+pub pours-so : (build : Build session.pour) (s : Session) (out : List ℕ) →
+    let r = build .run s (record { out = out }) in
+    Writes (pourMade (voiceFor (s .form)) s) out (r .0 .answer) (r .1 .out) × (r .0 .session ≡ afterPour holdingShape s (r .0 .answer))
+pours-so build s out =
+    by-name (λ g o x y. Writes (pourMade (voiceFor (g .form)) g) (o .out) (x .answer) (y .out) × (x .session ≡ afterPour holdingShape g (x .answer)))
+    (λ κs a x e p. p) (build .meets s (record { out = out }))

@@ -14,6 +14,7 @@ pub mod Demand3
 pub mod Boxes
 pub mod Captures
 pub mod CapturesRead
+pub mod Marks
 pub mod LentBack
 pub mod Lent
 pub mod Examples

@@ -11,7 +11,12 @@ use Rattle.frame.specs.Shape.{holdingShape}
 use Rattle.packet.specs.Writing.{packetMade}
 use Rattle.session.specs.Session.{offered, pourMade, afterPour}
 use Rattle.session.specs.declared.Session.{Session}
+use Rattle.lending.specs.Calls.{offerAnswer, offerOctets, pourOf}
+use Rattle.lending.specs.Laid.{sessionVoice}
+use Rattle.landing.specs.Host.{countTold, takenAfter, writeTold, writeAfter}
 use Rattle.claims.specs.Call.{Call, Passed, Returned, Ended, Outcome, Build}
+use Rattle.claims.specs.Calls.Lent.{LentSessionLost, LentSessionOutWritten}
+use Rattle.claims.specs.Calls.Landing as landing
 use Rattle.claims.specs.Calls.Packet as packet
 use Rattle.claims.specs.Calls.Session as session
 
@@ -46,3 +51,21 @@ pub pours-so : (build : Build session.pour) (s : Session) (out : List ℕ) →
 pours-so build s out =
     by-name (λ g o x y. Writes (pourMade (voiceFor (g .form)) g) (o .out) (x .answer) (y .out) × (x .session ≡ afterPour holdingShape g (x .answer)))
     (λ κs a x e p. p) (build .meets s (record { out = out }))
+
+-- ---- the same of the C calls, on lent octets
+pub host-offers-so : (build : Build landing.lvSessionOffer) (o : LentSessionLost) (source sequence timestamp : ℕ) (p : List ℕ) →
+    let r = build .run (source, (sequence, (timestamp, p))) o in
+    (countTold (r .0) (r .1 .lost) ≡ takenAfter (offerAnswer (sessionVoice (o .session)) (o .session) source sequence timestamp p) (o .lost))
+    × (r .1 .session ≡ offerOctets (sessionVoice (o .session)) (o .session) source sequence timestamp p)
+host-offers-so build o source sequence timestamp p =
+    by-name (λ g o x y.
+    (countTold x (y .lost) ≡ takenAfter (offerAnswer (sessionVoice (o .session)) (o .session) (g .0) (g .1 .0) (g .1 .1 .0) (g .1 .1 .1)) (o .lost))
+    × (y .session ≡ offerOctets (sessionVoice (o .session)) (o .session) (g .0) (g .1 .0) (g .1 .1 .0) (g .1 .1 .1)))
+    (λ κs a x e p. p) (build .meets (source, (sequence, (timestamp, p))) o)
+
+pub host-pours-so : (build : Build landing.lvSessionPour) (o : LentSessionOutWritten) →
+    let r = build .run tt o in
+    writeTold (r .0) (r .1 .written) (r .1 .out) ≡ writeAfter (pourOf (sessionVoice (o .session)) (o .session)) (o .written) (o .out)
+host-pours-so build o =
+    by-name (λ g o x y. writeTold x (y .written) (y .out) ≡ writeAfter (pourOf (sessionVoice (o .session)) (o .session)) (o .written) (o .out))
+    (λ κs a x e p. p .0) (build .meets tt o)

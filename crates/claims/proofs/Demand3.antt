@@ -36,7 +36,7 @@ use Rattle.claims.specs.Sessions.{lostBefore, bodyOctets}
 use Rattle.claims.specs.Offering.{Sent, sentNumbers, numbered, stamped, offerOne, offerAll, AllAccepted, Ready, Within, PouredPlaces, Delivered, OffersDeliver}
 use Rattle.claims.specs.Sending.{AdmitsIn, SentSo, WriterSends, WriterSendsNoErasure, TablesNeverSendErasures}
 use Rattle.claims.specs.Missing.{OneMissing, NoErasure, Spread, OneMissingPacket}
-use Rattle.claims.specs.Demand3.{WrittenGroup, originals, offerThrough, offerAllThrough, AcceptedThrough, PouredThrough, Demand3}
+use Rattle.claims.specs.Demand3.{WrittenGroup, originals, offerThrough, offerAllThrough, AcceptedThrough, Restored, PouredThrough, Demand3}
 use Rattle.claims.proofs.Joinings.{voices-have-room}
 use Rattle.claims.proofs.PacketsBack.{kinds-pass}
 use Rattle.claims.proofs.Offering.{offers-deliver}
@@ -84,25 +84,28 @@ keeps-form v s source sequence timestamp p = go _ (offer-ends v s source sequenc
     go o (ends.refuses r e) = ap (λ (x : Offered). x .session .form) e
     go o (ends.places i j l n d fs q x) = placed-form v s (arrival (v .shape) sequence timestamp l n fs) o x
 
--- ---- packets offered through a build are those that were sent
-module _ {write : Build packet.write} (offer : Build session.offer) (g : WrittenGroup write) (form : Form) (t : Sent (voiceFor form) form)
+-- ---- packets that were written are those that were sent
+module _ {write : Build packet.write} (g : WrittenGroup write) (form : Form) (t : Sent (voiceFor form) form)
     (same-source : t .group .source ≡ g .source) (same-numbers : sentNumbers (t .group) ≡ g .numbers) (same-payload : (n : ℕ) → t .payload n ≡ g .payload n) where
-  one-through : (s : Session) → s .form ≡ form → (n : ℕ) → offerThrough offer g s n ≡ offerOne s t n
-  one-through s f n =
-      offers-so offer s (g .source) (numbered (g .numbers) n) (stamped (g .numbers) n) (g .payload n)
-      ∙ ap (λ (x : Form). offered (voiceFor x) s (g .source) (numbered (g .numbers) n) (stamped (g .numbers) n) (g .payload n)) f
+  pub offered-so : (s : Session) → s .form ≡ form → (n : ℕ)
+      → offered (voiceFor (s .form)) s (g .source) (numbered (g .numbers) n) (stamped (g .numbers) n) (g .payload n) ≡ offerOne s t n
+  offered-so s f n =
+      ap (λ (x : Form). offered (voiceFor x) s (g .source) (numbered (g .numbers) n) (stamped (g .numbers) n) (g .payload n)) f
       ∙ ap (λ (x : ℕ). offered (voiceFor form) s x (numbered (g .numbers) n) (stamped (g .numbers) n) (g .payload n)) (sym same-source)
       ∙ ap (λ (x : GroupNumbers). offered (voiceFor form) s (t .group .source) (numbered x n) (stamped x n) (g .payload n)) (sym same-numbers)
       ∙ ap (offered (voiceFor form) s (t .group .source) (numbered (sentNumbers (t .group)) n) (stamped (sentNumbers (t .group)) n)) (sym (same-payload n))
 
-  through : (s : Session) → s .form ≡ form → (lost : ℕ) (ns : List ℕ) → AllAccepted s t lost ns →
+  one-through : (offer : Build session.offer) (s : Session) → s .form ≡ form → (n : ℕ) → offerThrough offer g s n ≡ offerOne s t n
+  one-through offer s f n = offers-so offer s (g .source) (numbered (g .numbers) n) (stamped (g .numbers) n) (g .payload n) ∙ offered-so s f n
+
+  through : (offer : Build session.offer) (s : Session) → s .form ≡ form → (lost : ℕ) (ns : List ℕ) → AllAccepted s t lost ns →
       AcceptedThrough offer g s lost ns × (offerAllThrough offer g s ns ≡ offerAll s t ns)
   unfolding AllAccepted AcceptedThrough offerAllThrough offerAll
-  through s f lost [] x = (tt, refl)
-  through s f lost (n ∷ ns) x =
-      let e = one-through s f n in
+  through offer s f lost [] x = (tt, refl)
+  through offer s f lost (n ∷ ns) x =
+      let e = one-through offer s f n in
       let u : offerThrough offer g s n .session ≡ offerOne s t n .session = ap (λ (y : Offered). y .session) e in
-      let rest = through (offerOne s t n .session) (keeps-form (voiceFor form) s (t .group .source) _ _ (t .payload n) ∙ f) 0 ns (x .1) in (
+      let rest = through offer (offerOne s t n .session) (keeps-form (voiceFor form) s (t .group .source) _ _ (t .payload n) ∙ f) 0 ns (x .1) in (
         (ap (λ (y : Offered). y .answer) e ∙ x .0, subst (λ (y : Session). AcceptedThrough offer g y 0 ns) (sym u) (rest .0)),
         ap (λ (y : Session). offerAllThrough offer g y ns) u ∙ rest .1,
       )
@@ -119,7 +122,7 @@ module _ (write : Build packet.write) (g : WrittenGroup write) where
       wrote-made _ (g .buffer n) _ _ (g .payload n) (writes-so write (Interleaved (g .limits)) (g .numbers .l) n (g .numbers .b) (g .d n) (g .entries) (g .buffer n))
       (g .wrote n h .count) (g .wrote n h .front)
 
-  sent-so : SentSo (voiceFor (Interleaved (g .limits))) (AdmitsIn (g .numbers .l) (g .numbers .b)) (g .source) (g .numbers) (originals g) (g .payload)
+  pub sent-so : SentSo (voiceFor (Interleaved (g .limits))) (AdmitsIn (g .numbers .l) (g .numbers .b)) (g .source) (g .numbers) (originals g) (g .payload)
   unfolding WriterSends KindsPass
   sent-so =
       writer-sends (kindOf (vocoderOf (Interleaved (g .limits)))) (kinds-pass (vocoderOf (Interleaved (g .limits))) .narrows) (g .limits) (g .numbers) (g .entries) (g .d)
@@ -135,45 +138,54 @@ module _ (write : Build packet.write) (g : WrittenGroup write) where
     abbrev t : Sent (voiceFor form) form
     t = sent-so .sent form i
 
-    t-source : t .group .source ≡ g .source
+    pub t-source : t .group .source ≡ g .source
     t-source = ap (λ k. k .source) (sent-so .same-group form i) ∙ sent-so .its-source
 
-    t-numbers : sentNumbers (t .group) ≡ g .numbers
+    pub t-numbers : sentNumbers (t .group) ≡ g .numbers
     t-numbers = ap (λ k. sentNumbers k) (sent-so .same-group form i) ∙ sent-so .its-numbers
 
     t-frames : t .group .frames ≡ originals g
     t-frames = ap (λ k. k .frames) (sent-so .same-group form i) ∙ sent-so .its-frames
 
-    t-l : t .group .l ≡ g .numbers .l
+    pub t-l : t .group .l ≡ g .numbers .l
     t-l = ap (λ (k : GroupNumbers). k .l) t-numbers
 
     t-b : t .group .b ≡ g .numbers .b
     t-b = ap (λ (k : GroupNumbers). k .b) t-numbers
 
     module _ (s : Session) (y : Ready (voiceFor form) form s (g .source) (g .numbers)) (n : ℕ) (ns : List ℕ) (w : Within (g .numbers .l) (n ∷ ns)) where
-      delivered : Delivered s t n ns
+      pub delivered : Delivered s t n ns
       unfolding OffersDeliver
       delivered =
           offers-deliver (voiceFor form) (voices-have-room .of-sessions form) form t s
           (subst (λ (k : GroupNumbers). Ready (voiceFor form) form s (t .group .source) k) (sym t-numbers)
           (subst (λ (k : ℕ). Ready (voiceFor form) form s k (g .numbers)) (sym t-source) y)) n ns (subst (λ (k : ℕ). Within k (n ∷ ns)) (sym t-l) w)
 
-      poured-through : (pour : Build session.pour) → PouredThrough pour g (offerAll s t (n ∷ ns)) (n ∷ ns)
+      -- the frames poured
+      abbrev places : List Frame
+      places = inTime (voiceFor form) (offerAll s t (n ∷ ns) .group)
+
+      pub restores : Restored g (n ∷ ns) places
       unfolding OneMissingPacket
+      restores =
+          record {
+            places = places-as t-frames t-l t-b (delivered .places);
+            octet-count = delivered .octet-count ∙ ap₂ (λ (l b : ℕ). (l + 1) * b + bodyOctets places) t-l t-b;
+            one-missing = λ x o. subst (Spread places) t-b
+                (one-missing-packet (voiceFor form) (voices-have-room .of-sessions form) form t (offerAll s t (n ∷ ns)) (n ∷ ns) (delivered .exactly)
+                (subst NoErasure (sym t-frames) none-erased) x (subst (λ (k : ℕ). OneMissing k (n ∷ ns) x) (sym t-l) o));
+          }
+
+      poured-through : (pour : Build session.pour) → PouredThrough pour g (offerAll s t (n ∷ ns)) (n ∷ ns)
       poured-through pour =
           let u = offerAll s t (n ∷ ns) in
-          let fs = inTime (voiceFor form) (u .group) in
-          let made : (out : List ℕ) → Writes (octets (entriesOf fs)) out (pour .run u (record { out = out }) .0 .answer) (pour .run u (record { out = out }) .1 .out)
+          let made : (out : List ℕ) → Writes (octets (entriesOf places)) out (pour .run u (record { out = out }) .0 .answer) (pour .run u (record { out = out }) .1 .out)
           = λ out. subst (λ (m : Made). Writes m out (pour .run u (record { out = out }) .0 .answer) (pour .run u (record { out = out }) .1 .out)) (delivered .poured) (pours-so pour u out .0) in
           record {
-            frames = fs;
-            places = places-as t-frames t-l t-b (delivered .places);
-            octet-count = delivered .octet-count ∙ ap₂ (λ (l b : ℕ). (l + 1) * b + bodyOctets fs) t-l t-b;
-            answered = λ out h. written-room (entriesOf fs) out _ _ (made out) h .0;
-            poured = λ out h. written-room (entriesOf fs) out _ _ (made out) h .1;
-            one-missing = λ x o. subst (Spread fs) t-b
-                (one-missing-packet (voiceFor form) (voices-have-room .of-sessions form) form t u (n ∷ ns) (delivered .exactly)
-                (subst NoErasure (sym t-frames) none-erased) x (subst (λ (k : ℕ). OneMissing k (n ∷ ns) x) (sym t-l) o));
+            frames = places;
+            restored = restores;
+            answered = λ out h. written-room (entriesOf places) out _ _ (made out) h .0;
+            poured = λ out h. written-room (entriesOf places) out _ _ (made out) h .1;
           }
 
 pub demand-3 : Demand3
@@ -182,7 +194,7 @@ demand-3 write offer pour g form i s y n ns w =
     let t = sent-so write g .sent form i in
     let d = delivered write g form i s y n ns w in
     let lost = lostBefore (voiceFor form .shape) s (sentNumbers (t .group)) in
-    let x = through offer g form t (t-source write g form i) (t-numbers write g form i) (sent-so write g .its-payload form i) s (y .in-form) lost (n ∷ ns) (d .accepted) in (
+    let x = through g form t (t-source write g form i) (t-numbers write g form i) (sent-so write g .its-payload form i) offer s (y .in-form) lost (n ∷ ns) (d .accepted) in (
       subst (λ (k : GroupNumbers). AcceptedThrough offer g s (lostBefore (voiceFor form .shape) s k) (n ∷ ns)) (t-numbers write g form i) (x .0),
       subst (λ (u : Session). PouredThrough pour g u (n ∷ ns)) (sym (x .1)) (poured-through write g form i s y n ns w pour),
     )

@@ -10,12 +10,13 @@ pub mod Offering
 pub mod Sending
 pub mod Missing
 pub mod Builds
-pub mod Demand3
 pub mod Boxes
 pub mod Captures
 pub mod CapturesRead
 pub mod Marks
 pub mod LentBack
+pub mod Demand3
+pub mod HostDemand3
 pub mod Lent
 pub mod Examples
 pub mod Faults

@@ -14,6 +14,7 @@ use Rattle.claims.proofs.PacketsBack.{packet-write-after-read, header-f
 use Rattle.claims.proofs.PacketsBack.{kinds-pass}
 use Rattle.claims.proofs.Recordings.{recording-read-after-write, recording-write-after-read, recording-same-octets, opening-alone}
 use Rattle.claims.proofs.Demand3.{demand-3}
+use Rattle.claims.proofs.HostDemand3.{host-demand-3}
 use Rattle.claims.proofs.Offering.{fresh-is-ready, offers-deliver, copied-out}
 use Rattle.claims.proofs.Sending.{writer-sends, header-free-writer-sends, writer-sends-no-erasure, tables-never-send-erasures}
 use Rattle.claims.proofs.Missing.{one-missing-packet}
@@ -63,6 +64,7 @@ promised = record {
   recording-same-octets = recording-same-octets;
   opening-alone = opening-alone;
   demand-3 = demand-3;
+  host-demand-3 = host-demand-3;
   fresh-is-ready = fresh-is-ready;
   offers-deliver = offers-deliver;
   writer-sends = writer-sends;

@@ -1,16 +1,16 @@
 -- The types in a holding that holds a packet are octets. Assumes nothing.
-use Prim.Native.Nat.{ℕ, zero, suc, _+_, _*_, _/_, _%_, _<_}
-use mathlib.Core.Path.{_≡_, refl, sym, ap, subst, _∙_}
+use Prim.Native.Nat.{ℕ, suc, _+_, _*_, _/_, _%_, _<_}
+use mathlib.Core.Path.{_≡_, refl, ap, subst, _∙_}
 use mathlib.Core.List.{List, [], _∷_}
 use mathlib.Core.Bool.{Bool, true, false, _&&_}
 use native.Mathlib.Omega.{arith}
-use lib.Dec.{T, ltb, eqb, ltb→lt}
-use lib.ListN.{length, take, drop, getD, getD-replicate, replicate}
+use lib.Dec.{T, ltb, ltb→lt}
+use lib.ListN.{length, drop, getD, getD-replicate}
 use lib.Seq.{getD-take, getD-drop}
-use Rattle.octets.specs.Octets.{region, allZero}
+use Rattle.octets.specs.Octets.{region}
 use Rattle.octets.proofs.Logic.{both-true}
 use Rattle.octets.proofs.Below.{all-at}
-use Rattle.frame.specs.FrameTable.{FrameTable, known, size, erasure, erases}
+use Rattle.frame.specs.FrameTable.{known, erasure, erases}
 use Rattle.frame.proofs.FrameTableLaws.{erasure-listed}
 use Rattle.frame.specs.Shape.{Voice, packetsOf}
 use Rattle.bundle.specs.Bundles.{notHeld, markAt, mayStand, frameRight, framesRight}

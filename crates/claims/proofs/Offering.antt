@@ -108,9 +108,9 @@ exactly-as s g ds es h x =
     }
 
 -- what one more offer does
-record OneMore {v : Voice} {form : Form} (s : Session) (g : Sent v form) (n : ℕ) (ds : List ℕ) : Type 0 where
-  told : offerOne s g n .answer ≡ Accepted 0
-  after : HoldsExactly (offerOne s g n .session) g (n ∷ ds)
+pub record OneMore {v : Voice} {form : Form} (s : Session) (g : Sent v form) (n : ℕ) (ds : List ℕ) : Type 0 where
+  pub told : offerOne s g n .answer ≡ Accepted 0
+  pub after : HoldsExactly (offerOne s g n .session) g (n ∷ ds)
 
 -- ---- packet n is offered to a session that holds the group
 module _ (v : Voice) (m : HasRoom v) (form : Form) (g : Sent v form) (n : ℕ) (le : n ≤ g .group .l) where
@@ -222,7 +222,7 @@ module _ (v : Voice) (m : HasRoom v) (form : Form) (g : Sent v form) (n : ℕ) (
         go i false q = refl
 
     -- one more offer
-    step : OneMore s g n ds
+    pub step : OneMore s g n ds
     unfolding accept
     step = go (among n ds) refl
       where
@@ -240,8 +240,8 @@ spread ds [] = ds
 spread ds (n ∷ ns) = spread (n ∷ ds) ns
 
 record More {v : Voice} {form : Form} (s : Session) (g : Sent v form) (ds ns : List ℕ) : Type 0 where
-  told : AllAccepted s g 0 ns
-  after : HoldsExactly (offerAll s g ns) g (spread ds ns)
+  pub told : AllAccepted s g 0 ns
+  pub after : HoldsExactly (offerAll s g ns) g (spread ds ns)
 
 offers : (v : Voice) → HasRoom v → (form : Form) (g : Sent v form) (s : Session) (ds ns : List ℕ) → HoldsExactly s g ds → Within (g .group .l) ns → More s g ds ns
 unfolding AllAccepted offerAll
@@ -252,9 +252,9 @@ offers v m form g s ds (n ∷ ns) x w =
     record { told = (o .told, r .told); after = r .after }
 
 -- ---- the first packet begins the group
-record First {v : Voice} {form : Form} (s : Session) (g : Sent v form) (n : ℕ) : Type 0 where
-  told : offerOne s g n .answer ≡ Accepted (lostBefore (v .shape) s (sentNumbers (g .group)))
-  after : HoldsExactly (offerOne s g n .session) g (n ∷ [])
+pub record First {v : Voice} {form : Form} (s : Session) (g : Sent v form) (n : ℕ) : Type 0 where
+  pub told : offerOne s g n .answer ≡ Accepted (lostBefore (v .shape) s (sentNumbers (g .group)))
+  pub after : HoldsExactly (offerOne s g n .session) g (n ∷ [])
 
 module _ (v : Voice) (m : HasRoom v) (form : Form) (g : Sent v form) (n : ℕ) (le : n ≤ g .group .l) (s : Session) (y : Ready v form s (g .group .source) (sentNumbers (g .group))) where
   abbrev mine : List Frame
@@ -316,7 +316,7 @@ module _ (v : Voice) (m : HasRoom v) (form : Form) (g : Sent v form) (n : ℕ) (
         part = q;
       }
 
-  begins-group : First s g n
+  pub begins-group : First s g n
   unfolding accept
   begins-group =
       let o : offerOne s g n ≡ accept (withGroup s first) (lostBefore (v .shape) s (sentNumbers (g .group))) = begun-first ∙ begins-so (y .reported) ∙ ap (accept (withGroup s first)) reported-is in

@@ -20,8 +20,10 @@ use Rattle.packet.specs.Packet.{groupIn}
 use Rattle.session.specs.declared.Session.{Session}
 use Rattle.session.specs.declared.Offered.{Offered}
 use Rattle.session.specs.declared.Taken.the-variants.{Accepted}
+use Rattle.lending.specs.Laid.{sessionIn}
 use Rattle.claims.specs.Call.{Build}
-use Rattle.claims.specs.Calls.Lent.{LentOut}
+use Rattle.claims.specs.Calls.Lent.{LentOut, LentSessionLost}
+use Rattle.claims.specs.Calls.Landing as landing
 use Rattle.claims.specs.Calls.Packet as packet
 use Rattle.claims.specs.Calls.Session as session
 use Rattle.claims.specs.Sessions.{lostBefore, bodyOctets}
@@ -67,19 +69,26 @@ AcceptedThrough offer g s lost [] = Unit {0}
 AcceptedThrough offer g s lost (n ∷ ns) =
     (offerThrough offer g s n .answer ≡ Accepted lost) × AcceptedThrough offer g (offerThrough offer g s n .session) 0 ns
 
--- what `session::pour` then leaves in a buffer: the frames of every place, as recording entries, and octets past them as they were
-pub record PouredThrough {write : Build packet.write} (pour : Build session.pour) (g : WrittenGroup write) (s : Session) (ns : List ℕ)
-    : Type 0 where
-  pub frames : List Frame
+-- the frames of every place, where these packets were offered
+pub record Restored {write : Build packet.write} (g : WrittenGroup write) (ns : List ℕ) (frames : List Frame) : Type 0 where
   pub places : PouredPlaces frames (originals g) (g .numbers .l) (g .numbers .b) ns
   pub octet-count : length (entriesOf frames) ≡ (g .numbers .l + 1) * g .numbers .b + bodyOctets frames
-  pub answered : (out : List ℕ) → length (entriesOf frames) ≤ length out →
-      pour .run s (record { out = out }) .0 .answer ≡ Octets (length (entriesOf frames))
-  pub poured : (out : List ℕ) → length (entriesOf frames) ≤ length out →
-      pour .run s (record { out = out }) .1 .out ≡ entriesOf frames ++ drop (length (entriesOf frames)) out
   -- "If exactly one packet of two or more is missing, exactly as many erasures stand there as a packet has frames, and no two are
   -- neighbours."
   pub one-missing : (x : ℕ) → OneMissing (g .numbers .l) ns x → Spread frames (g .numbers .b)
+
+-- "a buffer with room" then has these frames as recording entries, and octets past them as they were
+abbrev pub pouredInto : List ℕ → List Frame → List ℕ
+pouredInto out frames = entriesOf frames ++ drop (length (entriesOf frames)) out
+
+-- what `session::pour` answers and leaves
+pub record PouredThrough {write : Build packet.write} (pour : Build session.pour) (g : WrittenGroup write) (s : Session) (ns : List ℕ)
+    : Type 0 where
+  pub frames : List Frame
+  pub restored : Restored g ns frames
+  pub answered : (out : List ℕ) → length (entriesOf frames) ≤ length out →
+      pour .run s (record { out = out }) .0 .answer ≡ Octets (length (entriesOf frames))
+  pub poured : (out : List ℕ) → length (entriesOf frames) ≤ length out → pour .run s (record { out = out }) .1 .out ≡ pouredInto out frames
 
 -- the third demand of the order, of one group
 unfoldable pub Demand3 : Type 0
@@ -89,3 +98,42 @@ Demand3 =
     (n : ℕ) (ns : List ℕ) → Within (g .numbers .l) (n ∷ ns) →
     AcceptedThrough offer g s (lostBefore (voiceFor form .shape) s (g .numbers)) (n ∷ ns)
     × PouredThrough pour g (offerAllThrough offer g s (n ∷ ns)) (n ∷ ns)
+
+-- ---- the same through the C calls, on octets that a host lends
+
+-- its packet n, offered through `lv_session_offer`
+abbrev pub hostOffer :
+    {write : Build packet.write} → Build landing.lvSessionOffer → WrittenGroup write → LentSessionLost → ℕ → ℕ × LentSessionLost
+hostOffer offer g o n = offer .run (g .source, (numbered (g .numbers) n, (stamped (g .numbers) n, g .payload n))) o
+
+-- its packets of these numbers, one after the other
+unfoldable pub hostOfferAll :
+    {write : Build packet.write} → Build landing.lvSessionOffer → WrittenGroup write → LentSessionLost → List ℕ → LentSessionLost
+hostOfferAll offer g o [] = o
+hostOfferAll offer g o (n ∷ ns) = hostOfferAll offer g (hostOffer offer g o n .1) ns
+
+-- every answer is 0; the first tells these lost frames, the others none
+unfoldable pub HostAccepted :
+    {write : Build packet.write} → Build landing.lvSessionOffer → WrittenGroup write → LentSessionLost → ℕ → List ℕ → Type 0
+HostAccepted offer g o lost [] = Unit {0}
+HostAccepted offer g o lost (n ∷ ns) =
+    (hostOffer offer g o n .0 ≡ 0) × ((hostOffer offer g o n .1 .lost ≡ lost) × HostAccepted offer g (hostOffer offer g o n .1) 0 ns)
+
+-- what `lv_session_pour` answers and leaves
+pub record HostPoured {write : Build packet.write} (pour : Build landing.lvSessionPour) (g : WrittenGroup write) (o : List ℕ) (ns : List ℕ)
+    : Type 0 where
+  pub frames : List Frame
+  pub restored : Restored g ns frames
+  pub told : (out : List ℕ) (written : ℕ) → length (entriesOf frames) ≤ length out →
+      let r = pour .run tt (record { session = o; out = out; written = written }) in
+      (r .0 ≡ 0) × ((r .1 .written ≡ length (entriesOf frames)) × (r .1 .out ≡ pouredInto out frames))
+
+-- the third demand, as a host sees it
+unfoldable pub HostDemand3 : Type 0
+HostDemand3 =
+    (write : Build packet.write) (offer : Build landing.lvSessionOffer) (pour : Build landing.lvSessionPour) (g : WrittenGroup write) →
+    (form : Form) → AdmitsIn (g .numbers .l) (g .numbers .b) form → (o : LentSessionLost) →
+    Ready (voiceFor form) form (sessionIn (o .session)) (g .source) (g .numbers) →
+    (n : ℕ) (ns : List ℕ) → Within (g .numbers .l) (n ∷ ns) →
+    HostAccepted offer g o (lostBefore (voiceFor form .shape) (sessionIn (o .session)) (g .numbers)) (n ∷ ns)
+    × HostPoured pour g (hostOfferAll offer g o (n ∷ ns) .session) (n ∷ ns)

@@ -128,7 +128,7 @@ module _ (write : Build packet.write) (g : WrittenGroup write) where
       writer-sends (kindOf (vocoderOf (Interleaved (g .limits)))) (kinds-pass (vocoderOf (Interleaved (g .limits))) .narrows) (g .limits) (g .numbers) (g .entries) (g .d)
       (g .payload) made-so (g .source) (g .sequence-fits) (g .timestamp-fits)
 
-  none-erased : NoErasure (originals g)
+  pub none-erased : NoErasure (originals g)
   unfolding NoErasure WriterSendsNoErasure TablesNeverSendErasures
   none-erased =
       writer-sends-no-erasure (kindOf (vocoderOf (Interleaved (g .limits)))) (tables-never-send-erasures (vocoderOf (Interleaved (g .limits)))) (g .limits)
@@ -144,13 +144,13 @@ module _ (write : Build packet.write) (g : WrittenGroup write) where
     pub t-numbers : sentNumbers (t .group) ≡ g .numbers
     t-numbers = ap (λ k. sentNumbers k) (sent-so .same-group form i) ∙ sent-so .its-numbers
 
-    t-frames : t .group .frames ≡ originals g
+    pub t-frames : t .group .frames ≡ originals g
     t-frames = ap (λ k. k .frames) (sent-so .same-group form i) ∙ sent-so .its-frames
 
     pub t-l : t .group .l ≡ g .numbers .l
     t-l = ap (λ (k : GroupNumbers). k .l) t-numbers
 
-    t-b : t .group .b ≡ g .numbers .b
+    pub t-b : t .group .b ≡ g .numbers .b
     t-b = ap (λ (k : GroupNumbers). k .b) t-numbers
 
     module _ (s : Session) (y : Ready (voiceFor form) form s (g .source) (g .numbers)) (n : ℕ) (ns : List ℕ) (w : Within (g .numbers .l) (n ∷ ns)) where
@@ -188,13 +188,20 @@ module _ (write : Build packet.write) (g : WrittenGroup write) where
             poured = λ out h. written-room (entriesOf places) out _ _ (made out) h .1;
           }
 
-pub demand-3 : Demand3
-unfolding Demand3
-demand-3 write offer pour g form i s y n ns w =
+-- every offer is accepted, and the session after them is the one that was offered what was sent
+pub accepts : (write : Build packet.write) (offer : Build session.offer) (g : WrittenGroup write) (form : Form) (i : AdmitsIn (g .numbers .l) (g .numbers .b) form)
+    (s : Session) → Ready (voiceFor form) form s (g .source) (g .numbers) → (n : ℕ) (ns : List ℕ) → Within (g .numbers .l) (n ∷ ns) →
+    AcceptedThrough offer g s (lostBefore (voiceFor form .shape) s (g .numbers)) (n ∷ ns)
+    × (offerAllThrough offer g s (n ∷ ns) ≡ offerAll s (sent-so write g .sent form i) (n ∷ ns))
+accepts write offer g form i s y n ns w =
     let t = sent-so write g .sent form i in
     let d = delivered write g form i s y n ns w in
     let lost = lostBefore (voiceFor form .shape) s (sentNumbers (t .group)) in
-    let x = through g form t (t-source write g form i) (t-numbers write g form i) (sent-so write g .its-payload form i) offer s (y .in-form) lost (n ∷ ns) (d .accepted) in (
-      subst (λ (k : GroupNumbers). AcceptedThrough offer g s (lostBefore (voiceFor form .shape) s k) (n ∷ ns)) (t-numbers write g form i) (x .0),
-      subst (λ (u : Session). PouredThrough pour g u (n ∷ ns)) (sym (x .1)) (poured-through write g form i s y n ns w pour),
-    )
+    let x = through g form t (t-source write g form i) (t-numbers write g form i) (sent-so write g .its-payload form i) offer s (y .in-form) lost (n ∷ ns) (d .accepted) in
+    (subst (λ (k : GroupNumbers). AcceptedThrough offer g s (lostBefore (voiceFor form .shape) s k) (n ∷ ns)) (t-numbers write g form i) (x .0), x .1)
+
+pub demand-3 : Demand3
+unfolding Demand3
+demand-3 write offer pour g form i s y n ns w =
+    let x = accepts write offer g form i s y n ns w in
+    (x .0, subst (λ (u : Session). PouredThrough pour g u (n ∷ ns)) (sym (x .1)) (poured-through write g form i s y n ns w pour))

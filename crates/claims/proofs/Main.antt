@@ -13,6 +13,7 @@ use Rattle.claims.proofs.Packets.{packet-read-after-write}
 use Rattle.claims.proofs.PacketsBack.{packet-write-after-read, header-free-read-after-write, header-free-write-after-read}
 use Rattle.claims.proofs.PacketsBack.{kinds-pass}
 use Rattle.claims.proofs.Recordings.{recording-read-after-write, recording-write-after-read, recording-same-octets, opening-alone}
+use Rattle.claims.proofs.Buildable.{buildable}
 use Rattle.claims.proofs.Demand3.{demand-3}
 use Rattle.claims.proofs.HostDemand3.{host-demand-3}
 use Rattle.claims.proofs.Offering.{fresh-is-ready, offers-deliver, copied-out}
@@ -96,6 +97,7 @@ promised = record {
   nothing-is-larger = nothing-is-larger;
   marked-examples = marked-examples;
   faults-have-places = faults-have-places;
+  buildable = buildable;
   refuses-everything = refuses-everything;
   pours-erasures = pours-erasures;
   stores-nothing = stores-nothing;

@@ -1,58 +1,87 @@
--- Document 01, "What the promises have to say": the idle builds, each of which a claim shuts out. `Delivered` is what demand 3 says of a
--- group offered to a session that is ready for it.
+-- Document 01, "What the promises have to say": "Check these idle builds against the promises." Of any build that meets the contracts
+-- (`Build`), each of these says: it is not such a one. A group that our writer wrote and a session that is ready for it are all it takes.
 use Prim.Native.Nat.{ℕ, _+_, _≤_}
 use mathlib.Core.Path.{_≡_}
-use mathlib.Core.List.{List, [], _∷_}
-use mathlib.Core.Bool.{true, false}
-use lib.ListN.{length}
-use Rattle.frame.specs.Shape.{Voice}
-use Rattle.frame.specs.Places.{frameAt}
-use Rattle.answers.specs.Outputs.{octets}
+use mathlib.Core.List.{List}
+use mathlib.Core.Bool.{false}
+use lib.ListN.{length, take, replicate}
+use Rattle.frame.specs.FrameTable.{erasure}
+use Rattle.frame.specs.Shape.{holdingShape}
+use Rattle.answers.specs.declared.Written.the-variants.{Octets}
 use Rattle.form.specs.declared.Form.{Form}
-use Rattle.answers.specs.declared.Refusal.{Refusal}
-use Rattle.packet.specs.Packet.{placeOf}
-use Rattle.pouring.specs.Pouring.{inTime, poured}
-use Rattle.holding.specs.declared.Holding.{Holding}
+use Rattle.form.specs.Agreed.{voiceFor}
+use Rattle.holding.specs.Group.{isNothing}
+use Rattle.pouring.specs.Pouring.{inTime}
 use Rattle.session.specs.declared.Session.{Session}
+use Rattle.session.specs.declared.Taken.{Taken}
 use Rattle.session.specs.declared.Taken.the-variants.{Accepted, Refused}
+use Rattle.claims.specs.Call.{Build}
+use Rattle.claims.specs.Calls.Packet as packet
+use Rattle.claims.specs.Calls.Session as session
+use Rattle.claims.specs.Calls.Landing as landing
 use Rattle.claims.specs.Sessions.{lostBefore, bodyOctets}
-use Rattle.claims.specs.Offering.{Sent, sentNumbers, offerOne, offerAll, Ready, Delivered}
-use Rattle.claims.specs.Missing.{isErasure}
+use Rattle.claims.specs.Offering.{Ready}
+use Rattle.claims.specs.Sending.{AdmitsIn}
+use Rattle.claims.specs.Demand3.{WrittenGroup, offerThrough}
+
+-- the contracts can be met, or claims on builds would say nothing
+pub record Buildable : Type 0 where
+  pub write : Build packet.write
+  pub offer : Build session.offer
+  pub pour : Build session.pour
+  pub host-offer : Build landing.lvSessionOffer
+  pub host-pour : Build landing.lvSessionPour
+
+-- what demand 3 takes: a group that was written, a session that is ready for it, in a form that admits it, and one of its packets
+pub record Taken3 : Type 0 where
+  pub write : Build packet.write
+  pub group : WrittenGroup write
+  pub form : Form
+  pub admitted : AdmitsIn (group .numbers .l) (group .numbers .b) form
+  pub session : Session
+  pub ready : Ready (voiceFor form) form session (group .source) (group .numbers)
+  pub n : ℕ
+  pub within : n ≤ group .numbers .l
+
+-- an answer that is a refusal
+abbrev pub IsRefused : Taken → Type 0
+IsRefused (Accepted lost) = ⊥
+IsRefused (Refused r) = Unit {0}
 
 -- "One that refuses everything: shut out .. by demand 3, where a written packet is accepted."
 unfoldable pub RefusesEverything : Type 0
 RefusesEverything =
-    (v : Voice) (form : Form) (s : Session) (g : Sent v form) (n : ℕ) (ns : List ℕ) → Delivered s g n ns →
-    (r : Refusal) → offerOne s g n .answer ≡ Refused r → ⊥
+    (offer : Build session.offer) → ((given : session.offer .Given) → IsRefused (offer .run given tt .0 .answer)) → Taken3 → ⊥
 
 -- "One that pours erasures always: demand 3, original frames where offered."
 unfoldable pub PoursErasures : Type 0
 PoursErasures =
-    (v : Voice) (form : Form) (s : Session) (g : Sent v form) (n : ℕ) (ns : List ℕ) → Delivered s g n ns → n ≤ g .group .l →
-    isErasure (frameAt (g .group .frames) (placeOf (g .group .l) n 0)) ≡ false →
-    ((t : ℕ) → isErasure (frameAt (inTime v (offerAll s g (n ∷ ns) .group)) t) ≡ true) → ⊥
+    (offer : Build session.offer) (pour : Build session.pour) →
+    ((s : Session) (out : List ℕ) (k : ℕ) → pour .run s (record { out = out }) .0 .answer ≡ Octets k →
+    take k (pour .run s (record { out = out }) .1 .out) ≡ replicate k erasure) →
+    Taken3 → ⊥
 
 -- "One that stores nothing on offering: the holding after it is fixed."
 unfoldable pub StoresNothing : Type 0
 StoresNothing =
-    (v : Voice) (form : Form) (s : Session) (g : Sent v form) (n : ℕ) (ns : List ℕ) →
-    Ready v form s (g .group .source) (sentNumbers (g .group)) → Delivered s g n ns →
-    offerAll s g (n ∷ ns) .group ≡ s .group → ⊥
+    (offer : Build session.offer) → ((given : session.offer .Given) → offer .run given tt .0 .session ≡ given .0) → Taken3 → ⊥
 
 -- "One that takes the first packet and only nods at later ones: demand 3 with two packets."
 unfoldable pub NodsAtLater : Type 0
 NodsAtLater =
-    (v : Voice) (form : Form) (s : Session) (g : Sent v form) (n k : ℕ) → Delivered s g n [] → Delivered s g n (k ∷ []) →
-    k ≤ g .group .l → (k ≡ n → ⊥) → offerAll s g (n ∷ k ∷ []) .group ≡ offerAll s g (n ∷ []) .group → ⊥
+    (offer : Build session.offer) →
+    ((given : session.offer .Given) → isNothing holdingShape (given .0 .group) ≡ false → offer .run given tt .0 .session ≡ given .0) →
+    (c : Taken3) (k : ℕ) → k ≤ c .group .numbers .l → (k ≡ c .n → ⊥) → ⊥
 
 -- "One that reports invented lost-frame or octet counts: both counts are fixed by formula."
 unfoldable pub InventsLostFrames : Type 0
 InventsLostFrames =
-    (v : Voice) (form : Form) (s : Session) (g : Sent v form) (n : ℕ) (ns : List ℕ) → Delivered s g n ns →
-    (k : ℕ) → offerOne s g n .answer ≡ Accepted k → (k ≡ lostBefore (v .shape) s (sentNumbers (g .group)) → ⊥) → ⊥
+    (offer : Build session.offer) (c : Taken3) (k : ℕ) → offerThrough offer (c .group) (c .session) (c .n) .answer ≡ Accepted k →
+    (k ≡ lostBefore holdingShape (c .session) (c .group .numbers) → ⊥) → ⊥
 
 -- the same for octet counts
 unfoldable pub InventsOctetCounts : Type 0
 InventsOctetCounts =
-    (v : Voice) (h : Holding) (w : List ℕ) → poured v h ≡ octets w →
-    (k : ℕ) → k ≡ length w → (k ≡ length (inTime v h) + bodyOctets (inTime v h) → ⊥) → ⊥
+    (pour : Build session.pour) (s : Session) (out : List ℕ) (k : ℕ) → pour .run s (record { out = out }) .0 .answer ≡ Octets k →
+    let frames = inTime (voiceFor (s .form)) (s .group) in
+    (k ≡ length frames + bodyOctets frames → ⊥) → ⊥

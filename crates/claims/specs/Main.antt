@@ -22,7 +22,8 @@ use Rattle.claims.specs.Captures.{GroupIsRecorded, FirstSourceAlone, Oth
 use Rattle.claims.specs.Captures.{NothingIsLarger, CaptureExactlyIf}
 use Rattle.claims.specs.Examples.{MarkedExamples}
 use Rattle.claims.specs.Faults.{FaultsHavePlaces}
-use Rattle.claims.specs.Idle.{RefusesEverything, PoursErasures, StoresNothing, NodsAtLater, InventsLostFrames, InventsOctetCounts}
+use Rattle.claims.specs.Idle.{Buildable, RefusesEverything, PoursErasures, StoresNothing, NodsAtLater, InventsLostFrames}
+use Rattle.claims.specs.Idle.{InventsOctetCounts}
 use Rattle.claims.specs.Determined.{Determined}
 
 -- every claim of the pages beside this one
@@ -104,6 +105,7 @@ pub record Promised : Type 0 where
   -- document 02, (i): "Refusals 4 to 8 of a payload must carry the octet place of the fault"; the calls show the refusal alone as yet
   pub faults-have-places : FaultsHavePlaces
   -- document 01, "What the promises have to say": the idle builds, and that any two outcomes allowed are equal
+  pub buildable : Buildable
   pub refuses-everything : RefusesEverything
   pub pours-erasures : PoursErasures
   pub stores-nothing : StoresNothing

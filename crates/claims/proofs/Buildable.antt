@@ -1,0 +1,134 @@
+-- The contracts can be met: what the definitions say is a build. Assumes nothing.
+use Prim.Native.Nat.{ℕ}
+use mathlib.Core.Path.{_≡_, refl}
+use mathlib.Core.List.{List, []}
+use denote.Ref.{RefT}
+use Rattle.answers.specs.Outputs.{Made, writtenOf, outAfter}
+use Rattle.entries.specs.Kind.{kindOf}
+use Rattle.form.specs.Agreed.{vocoderOf, voiceFor}
+use Rattle.frame.specs.Shape.{holdingShape}
+use Rattle.packet.specs.Writing.{packetMade}
+use Rattle.session.specs.Session.{offered, pourMade, afterPour}
+use Rattle.session.specs.declared.Session.{Session}
+use Rattle.lending.specs.Calls.{offerAnswer, offerOctets, pourOf, pourOctets}
+use Rattle.lending.specs.Laid.{sessionVoice}
+use Rattle.landing.specs.Host.{CountTold, countTold, takenAfter, WriteTold, writeTold, writeAfter}
+use Rattle.claims.specs.Call.{Build}
+use Rattle.claims.specs.Calls.Lent.{LentSessionLost, LentSessionOutWritten}
+use Rattle.claims.specs.Calls.Landing as landing
+use Rattle.claims.specs.Calls.Packet as packet
+use Rattle.claims.specs.Calls.Session as session
+use Rattle.claims.specs.Idle.{Buildable}
+use Rattle.claims.proofs.Seen.{count-seen, write-seen}
+
+-- a reference with this content, wherever it lies
+abbrev lies : {A : Type 0} → A → RefT A
+lies x = record { ptr = (0, 0); name = 0; now = x }
+
+write-built : Build packet.write
+write-built = record {
+  run = λ g o. (writtenOf (made g) (o .out), record { out = outAfter (made g) (o .out) });
+  meets = λ g o. record {
+    κs = ([], ([], tt));
+    passed = (g .0, (g .1 .0, (g .1 .1 .0, (g .1 .1 .1 .0, (g .1 .1 .1 .1 .0, (lies (g .1 .1 .1 .1 .1), (lies (o .out), tt)))))));
+    returned = writtenOf (made g) (o .out);
+    ended = (g .0, (g .1 .0, (g .1 .1 .0, (g .1 .1 .1 .0, (g .1 .1 .1 .1 .0, (lies (g .1 .1 .1 .1 .1), (lies (outAfter (made g) (o .out)), tt)))))));
+    allowed = record { answer = refl; output = refl };
+    is-given = refl;
+    is-lent = refl;
+    is-answer = refl;
+    is-left = refl;
+  };
+}
+  where
+    made : packet.write .Given → Made
+    made g = packetMade (kindOf (vocoderOf (g .0))) (g .0) (g .1 .0) (g .1 .1 .0) (g .1 .1 .1 .0) (g .1 .1 .1 .1 .0) (g .1 .1 .1 .1 .1)
+
+offer-built : Build session.offer
+offer-built = record {
+  run = λ g o. (offered (voiceFor (g .0 .form)) (g .0) (g .1 .0) (g .1 .1 .0) (g .1 .1 .1 .0) (g .1 .1 .1 .1), tt);
+  meets = λ g o. record {
+    κs = ([], tt);
+    passed = (g .0, (g .1 .0, (g .1 .1 .0, (g .1 .1 .1 .0, (lies (g .1 .1 .1 .1), tt)))));
+    returned = offered (voiceFor (g .0 .form)) (g .0) (g .1 .0) (g .1 .1 .0) (g .1 .1 .1 .0) (g .1 .1 .1 .1);
+    ended = (g .0, (g .1 .0, (g .1 .1 .0, (g .1 .1 .1 .0, (lies (g .1 .1 .1 .1), tt)))));
+    allowed = refl;
+    is-given = refl;
+    is-lent = refl;
+    is-answer = refl;
+    is-left = refl;
+  };
+}
+
+pour-built : Build session.pour
+pour-built = record {
+  run = λ s o. (record { answer = writtenOf (made s) (o .out); session = afterPour holdingShape s (writtenOf (made s) (o .out)) }, record { out = outAfter (made s) (o .out) });
+  meets = λ s o. record {
+    κs = ([], tt);
+    passed = (s, (lies (o .out), tt));
+    returned = record { answer = writtenOf (made s) (o .out); session = afterPour holdingShape s (writtenOf (made s) (o .out)) };
+    ended = (s, (lies (outAfter (made s) (o .out)), tt));
+    allowed = (record { answer = refl; output = refl }, refl);
+    is-given = refl;
+    is-lent = refl;
+    is-answer = refl;
+    is-left = refl;
+  };
+}
+  where
+    made : Session → Made
+    made s = pourMade (voiceFor (s .form)) s
+
+-- ---- what is told is the numbers that are told
+told-count : (c : CountTold) → countTold (count-seen c .0) (count-seen c .1 .count) ≡ c
+told-count (countTold x n) = refl
+
+told-write : (w : WriteTold) → writeTold (write-seen w .0) (write-seen w .1 .written) (write-seen w .1 .out) ≡ w
+told-write (writeTold x n out) = refl
+
+host-offer-built : Build landing.lvSessionOffer
+host-offer-built = record {
+  run = λ g o. (count-seen (told g o) .0, record { session = after g o; lost = count-seen (told g o) .1 .count });
+  meets = λ g o. record {
+    κs = ([], ([], ([], tt)));
+    passed = (lies (o .session), (g .0, (g .1 .0, (g .1 .1 .0, (lies (g .1 .1 .1), (lies (o .lost), tt))))));
+    returned = count-seen (told g o) .0;
+    ended = (lies (after g o), (g .0, (g .1 .0, (g .1 .1 .0, (lies (g .1 .1 .1), (lies (count-seen (told g o) .1 .count), tt))))));
+    allowed = (told-count (told g o), refl);
+    is-given = refl;
+    is-lent = refl;
+    is-answer = refl;
+    is-left = refl;
+  };
+}
+  where
+    told : landing.lvSessionOffer .Given → LentSessionLost → CountTold
+    told g o = takenAfter (offerAnswer (sessionVoice (o .session)) (o .session) (g .0) (g .1 .0) (g .1 .1 .0) (g .1 .1 .1)) (o .lost)
+
+    after : landing.lvSessionOffer .Given → LentSessionLost → List ℕ
+    after g o = offerOctets (sessionVoice (o .session)) (o .session) (g .0) (g .1 .0) (g .1 .1 .0) (g .1 .1 .1)
+
+host-pour-built : Build landing.lvSessionPour
+host-pour-built = record {
+  run = λ g o. (write-seen (told o) .0, record { session = after o; out = write-seen (told o) .1 .out; written = write-seen (told o) .1 .written });
+  meets = λ g o. record {
+    κs = ([], ([], ([], tt)));
+    passed = (lies (o .session), (lies (o .out), (lies (o .written), tt)));
+    returned = write-seen (told o) .0;
+    ended = (lies (after o), (lies (write-seen (told o) .1 .out), (lies (write-seen (told o) .1 .written), tt)));
+    allowed = (told-write (told o), refl);
+    is-given = refl;
+    is-lent = refl;
+    is-answer = refl;
+    is-left = refl;
+  };
+}
+  where
+    told : LentSessionOutWritten → WriteTold
+    told o = writeAfter (pourOf (sessionVoice (o .session)) (o .session)) (o .written) (o .out)
+
+    after : LentSessionOutWritten → List ℕ
+    after o = pourOctets (o .session) (writtenOf (pourOf (sessionVoice (o .session)) (o .session)) (o .out))
+
+pub buildable : Buildable
+buildable = record { write = write-built; offer = offer-built; pour = pour-built; host-offer = host-offer-built; host-pour = host-pour-built }

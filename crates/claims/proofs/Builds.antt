@@ -11,6 +11,7 @@ use Rattle.frame.specs.Shape.{holdingShape}
 use Rattle.packet.specs.Writing.{packetMade}
 use Rattle.session.specs.Session.{offered, pourMade, afterPour}
 use Rattle.session.specs.declared.Session.{Session}
+use Rattle.session.specs.declared.Offered.{Offered}
 use Rattle.lending.specs.Calls.{offerAnswer, offerOctets, pourOf}
 use Rattle.lending.specs.Laid.{sessionVoice}
 use Rattle.landing.specs.Host.{countTold, takenAfter, writeTold, writeAfter}
@@ -39,11 +40,13 @@ writes-so build form l n b d es out =
     by-name (λ g o x y. Writes (packetMade (kindOf (vocoderOf (g .0))) (g .0) (g .1 .0) (g .1 .1 .0) (g .1 .1 .1 .0) (g .1 .1 .1 .1 .0) (g .1 .1 .1 .1 .1)) (o .out) x (y .out))
     (λ κs a x e p. p) (build .meets (form, (l, (n, (b, (d, es))))) (record { out = out }))
 
+pub offer-told : {s : Session} {source sequence timestamp : ℕ} {p : List ℕ} {x : Offered} → Outcome session.offer (s, (source, (sequence, (timestamp, p)))) tt x tt →
+    x ≡ offered (voiceFor (s .form)) s source sequence timestamp p
+offer-told o = by-name (λ g l x y. x ≡ offered (voiceFor (g .0 .form)) (g .0) (g .1 .0) (g .1 .1 .0) (g .1 .1 .1 .0) (g .1 .1 .1 .1)) (λ κs a x e p. p) o
+
 pub offers-so : (build : Build session.offer) (s : Session) (source sequence timestamp : ℕ) (p : List ℕ) →
     build .run (s, (source, (sequence, (timestamp, p)))) tt .0 ≡ offered (voiceFor (s .form)) s source sequence timestamp p
-offers-so build s source sequence timestamp p =
-    by-name (λ g o x y. x ≡ offered (voiceFor (g .0 .form)) (g .0) (g .1 .0) (g .1 .1 .0) (g .1 .1 .1 .0) (g .1 .1 .1 .1))
-    (λ κs a x e p. p) (build .meets (s, (source, (sequence, (timestamp, p)))) tt)
+offers-so build s source sequence timestamp p = offer-told (build .meets (s, (source, (sequence, (timestamp, p)))) tt)
 
 pub pours-so : (build : Build session.pour) (s : Session) (out : List ℕ) →
     let r = build .run s (record { out = out }) in
@@ -53,15 +56,15 @@ pours-so build s out =
     (λ κs a x e p. p) (build .meets s (record { out = out }))
 
 -- ---- the same of the C calls, on lent octets
-pub host-offers-so : (build : Build landing.lvSessionOffer) (o : LentSessionLost) (source sequence timestamp : ℕ) (p : List ℕ) →
-    let r = build .run (source, (sequence, (timestamp, p))) o in
-    (countTold (r .0) (r .1 .lost) ≡ takenAfter (offerAnswer (sessionVoice (o .session)) (o .session) source sequence timestamp p) (o .lost))
-    × (r .1 .session ≡ offerOctets (sessionVoice (o .session)) (o .session) source sequence timestamp p)
-host-offers-so build o source sequence timestamp p =
+pub host-offer-told : {o after : LentSessionLost} {source sequence timestamp : ℕ} {p : List ℕ} {x : ℕ} →
+    Outcome landing.lvSessionOffer (source, (sequence, (timestamp, p))) o x after →
+    (countTold x (after .lost) ≡ takenAfter (offerAnswer (sessionVoice (o .session)) (o .session) source sequence timestamp p) (o .lost))
+    × (after .session ≡ offerOctets (sessionVoice (o .session)) (o .session) source sequence timestamp p)
+host-offer-told c =
     by-name (λ g o x y.
     (countTold x (y .lost) ≡ takenAfter (offerAnswer (sessionVoice (o .session)) (o .session) (g .0) (g .1 .0) (g .1 .1 .0) (g .1 .1 .1)) (o .lost))
     × (y .session ≡ offerOctets (sessionVoice (o .session)) (o .session) (g .0) (g .1 .0) (g .1 .1 .0) (g .1 .1 .1)))
-    (λ κs a x e p. p) (build .meets (source, (sequence, (timestamp, p))) o)
+    (λ κs a x e p. p) c
 
 pub host-pours-so : (build : Build landing.lvSessionPour) (o : LentSessionOutWritten) →
     let r = build .run tt o in

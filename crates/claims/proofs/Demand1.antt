@@ -71,7 +71,7 @@ written-refuses (written.Octets m) out k p = did (ap write-seen p)
 written-refuses (written.Refused r) {b = b} out k p = refused-by r (ap write-seen (p ∙ ap (writeTold (numberOf r) (b .written)) (k r refl)))
 
 -- a refused writer leaves its output
-kept-output : (made : Made) (out : List ℕ) (r : Refusal) → writtenOf made out ≡ written.Refused r → outAfter made out ≡ out
+pub kept-output : (made : Made) (out : List ℕ) (r : Refusal) → writtenOf made out ≡ written.Refused r → outAfter made out ≡ out
 unfolding writtenOf outAfter
 kept-output (refusedOutput s) out r e = refl
 kept-output (octets w) out r e = go (leb (length w) (length out)) e

@@ -40,7 +40,7 @@ use Rattle.claims.proofs.LentBack.{session-reads-back, nothing-poured-n
 use Rattle.claims.proofs.Seen.{count-seen, write-seen}
 use Rattle.claims.proofs.Offering.{begins-group, step}
 use Rattle.claims.proofs.Demand3.{offered-so, sent-so, t-source, t-numbers, t-l, delivered, restores}
-use Rattle.claims.proofs.Builds.{host-offers-so, host-pours-so}
+use Rattle.claims.proofs.Builds.{host-offer-told, host-pours-so}
 
 -- what is laid out of a session whose group holds a packet is read back
 laid-back : (form : Form) (s : Session) → NoneRemembered s → Box (voiceFor form) (s .group) → (o : List ℕ) → sessionIn (over o 0 (sessionLaid s)) ≡ s
@@ -62,7 +62,7 @@ module _ {write : Build packet.write} (offer : Build landing.lvSessionOffer) (g 
   unfolding offerAnswer offerOctets takenAfter layTaken
   taking o n lost f e x =
       let s = sessionIn (o .session) in
-      let c = host-offers-so offer o (g .source) (numbered (g .numbers) n) (stamped (g .numbers) n) (g .payload n) in
+      let c = host-offer-told (offer .meets (g .source, (numbered (g .numbers) n, (stamped (g .numbers) n, g .payload n))) o) in
       let q = offered-so g form t same-source same-numbers same-payload s f n in
       let a : countTold (hostOffer offer g o n .0) (hostOffer offer g o n .1 .lost) ≡ countTold 0 lost
       = c .0 ∙ ap (λ (y : Taken). takenAfter y (o .lost)) (ap (λ (y : Offered). y .answer) q ∙ e) in

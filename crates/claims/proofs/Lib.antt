@@ -10,6 +10,7 @@ pub mod Offering
 pub mod Sending
 pub mod Missing
 pub mod Builds
+pub mod Refusals
 pub mod Buildable
 pub mod Boxes
 pub mod Captures

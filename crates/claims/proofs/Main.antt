@@ -1,6 +1,7 @@
 -- The house keeps its promises: one value, with a proof for each claim. Assumes nothing.
 use Rattle.claims.specs.Main.{Promised}
 use Rattle.claims.proofs.Demand1.{demand-1}
+use Rattle.claims.proofs.Refusals.{refusals-are-numbered, rattle-demand-1, another-source}
 use Rattle.claims.proofs.Sessions.{refused-offer-changes-nothing, another-source-is-10, another-sources-words-are-not-heard}
 use Rattle.claims.proofs.Sessions.{opening-forgets, ending-forgets, ended-takes-nothing, first-packet-begins-alone}
 use Rattle.claims.proofs.Sessions.{repeat-changes-nothing, lost-frames-by-formula, octet-count-by-formula}
@@ -34,8 +35,11 @@ use Rattle.claims.proofs.Determined.{determined}
 pub promised : Promised
 promised = record {
   demand-1 = demand-1;
+  refusals-are-numbered = refusals-are-numbered;
+  rattle-demand-1 = rattle-demand-1;
   refused-offer-changes-nothing = refused-offer-changes-nothing;
   refusals-part-empty = refusals-part-empty;
+  another-source = another-source;
   another-source-is-10 = another-source-is-10;
   another-sources-words-are-not-heard = another-sources-words-are-not-heard;
   opening-forgets = opening-forgets;

@@ -2,6 +2,7 @@ pub mod Main
 pub mod Call
 pub mod Calls
 pub mod Demand1
+pub mod Refusals
 pub mod Packets
 pub mod Payloads
 pub mod Recordings

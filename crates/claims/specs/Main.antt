@@ -1,6 +1,7 @@
 -- The face of the house: all that it promises, in one record. Each field is a claim of a page beside this one, in the order's own
 -- order; proofs/Main.antt has its one value. A claim that is no field here, and no part of one, is refused by the gate (tools/claims).
 use Rattle.claims.specs.Demand1.{Demand1}
+use Rattle.claims.specs.Refusals.{RefusalsAreNumbered, RattleDemand1, AnotherSource}
 use Rattle.claims.specs.Payloads.{RRIgnored, RefusalsPartEmpty}
 use Rattle.claims.specs.Sessions.{RefusedOfferChangesNothing, AnotherSourceIs10, AnotherSourcesWordsAreNotHeard, OpeningForgets}
 use Rattle.claims.specs.Sessions.{EndingForgets, EndedTakesNothing, FirstPacketBeginsAlone, RepeatChangesNothing}
@@ -30,9 +31,12 @@ use Rattle.claims.specs.Determined.{Determined}
 pub record Promised : Type 0 where
   -- demand 1: "Each call answers, or refuses by a number in document 01. A refusal changes no session and no octet of a lent buffer."
   pub demand-1 : Demand1
+  pub refusals-are-numbered : RefusalsAreNumbered
+  pub rattle-demand-1 : RattleDemand1
   pub refused-offer-changes-nothing : RefusedOfferChangesNothing
   pub refusals-part-empty : RefusalsPartEmpty
   -- "A packet from another source is refused before its payload is looked at."
+  pub another-source : AnotherSource
   pub another-source-is-10 : AnotherSourceIs10
   pub another-sources-words-are-not-heard : AnotherSourcesWordsAreNotHeard
   -- "A session left open must never take the next skipper's words."

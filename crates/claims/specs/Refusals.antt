@@ -38,15 +38,17 @@ use Rattle.claims.specs.Calls.Landing as landing
 unfoldable pub RefusalsAreNumbered : Type 0
 RefusalsAreNumbered = (r : Refusal) → (1 ≤ numberOf r) × (numberOf r ≤ 21)
 
--- the answers that are refusals, of each kind of answer
+-- the answers that are refusals, of each kind of answer: of a call that gives no number
 abbrev pub RefusedAnswer : Answer → Type 0
 RefusedAnswer answer.Done = ⊥
 RefusedAnswer (answer.Refused r) = Unit {0}
 
+-- of an offer
 abbrev pub RefusedOffer : Taken → Type 0
 RefusedOffer (taken.Accepted lost) = ⊥
 RefusedOffer (taken.Refused r) = Unit {0}
 
+-- of what writes
 abbrev pub RefusedWriting : Written → Type 0
 RefusedWriting (written.Octets n) = ⊥
 RefusedWriting (written.Refused r) = Unit {0}

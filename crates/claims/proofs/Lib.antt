@@ -10,6 +10,7 @@ pub mod Demand3
 pub mod Sending
 pub mod Missing
 pub mod Boxes
+pub mod TwoBoxes
 pub mod Captures
 pub mod CapturesRead
 pub mod LentBack

@@ -11,6 +11,7 @@ pub mod Demand3
 pub mod Sending
 pub mod Missing
 pub mod Boxes
+pub mod TwoBoxes
 pub mod Captures
 pub mod Lent
 pub mod Examples

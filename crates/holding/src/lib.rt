@@ -312,15 +312,15 @@ fn with_bit(set: bool, bits: u8) -> u8
 }
 
 // Flags as a number: bit N is 1 if flag N is set.
-fn bits_of(flags: &[bool]) -> u8
-    requires { ⌜ length (now flags) ≤ 8 ⌝ }
-    ensures { λ r. ⌜ r ≡ bitsOf (now (flags .entry)) ⌝ }
+fn bits_of(set: &[bool]) -> u8
+    requires { ⌜ length (now set) ≤ 8 ⌝ }
+    ensures { λ r. ⌜ r ≡ bitsOf (now (set .entry)) ⌝ }
 {
     let mut bits: u8 = 0;
-    let mut n = flags.len();
+    let mut n = set.len();
     while 0 < n {
         n -= 1;
-        bits = with_bit(flags[n], bits);
+        bits = with_bit(set[n], bits);
     }
     bits
 }
@@ -329,8 +329,8 @@ fn bits_of(flags: &[bool]) -> u8
 pub fn read(h: Holding) -> Described
     ensures { λ r. ⌜ r ≡ described (voiceIn h) h ⌝ }
 {
-    let some = holds_packet(h);
-    if some {
+    let holds = holds_packet(h);
+    if holds {
         let numbers = numbers_of(h);
         let flags = h.held;
         let held = bits_of(&flags);

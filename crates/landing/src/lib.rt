@@ -461,8 +461,8 @@ pub extern "C" fn lv_holding_lost(before: &[u8], after: &[u8], lost: &mut usize)
     let found = lending::lost_between(before, after);
     match found {
         Lost::Refused(reason) => reason.number(),
-        Lost::Frames(n) => {
-            *lost = n;
+        Lost::Frames(frames) => {
+            *lost = frames;
             0
         }
     }

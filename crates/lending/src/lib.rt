@@ -412,8 +412,8 @@ pub fn drop_group(session: &mut [u8]) -> Answer
     match answer {
         Answer::Refused(reason) => Answer::Refused(reason),
         Answer::Done => {
-            let next = dropped.session;
-            lay_session(session, next);
+            let after = dropped.session;
+            lay_session(session, after);
             Answer::Done
         }
     }

@@ -14,7 +14,7 @@ use payload::Contents;
 ghost use mathlib.Core.Path.{_≡_};
 ghost use Prim.Native.Nat.{_<_};
 ghost use Rattle.answers.specs.Outputs.{Writes};
-ghost use Rattle.form.specs.Agreed.{voiceFor};
+ghost use Rattle.form.specs.Agreed.{voiceFor, defaultForm};
 ghost use Rattle.frame.specs.Shape.{holdingShape};
 ghost use Rattle.session.specs.Session.{vacant, neverOpened, formRight, openedFor, lastRight, groupRight, isOpen, refuse};
 ghost use Rattle.session.specs.Session.{accept, withGroup, lastNumbers, groupBefore, begins, belongs, placed, received};
@@ -130,6 +130,13 @@ pub fn open(session: Session, source: u32, form: Form) -> Started
             session,
         }
     }
+}
+
+// Opens a session in the form that is agreed where none is named.
+pub fn open_agreed(session: Session, source: u32) -> Started
+    ensures { λ r. ⌜ r ≡ openedFor holdingShape session source defaultForm ⌝ }
+{
+    open(session, source, Form::Interleaved(Limits::agreed()))
 }
 
 // Whether L and B of the last poured group are in range, if there is one.
@@ -422,14 +429,14 @@ pub fn drop_group(session: Session) -> Dropped
         return not_dropped(session);
     }
     let group = session.group;
-    let none_held = holding::is_nothing(group);
-    if none_held {
+    let no_group = holding::is_nothing(group);
+    if no_group {
         return not_dropped(session);
     }
-    let next = ended(session);
+    let dropped = ended(session);
     Dropped {
         answer: Answer::Done,
-        session: next,
+        session: dropped,
     }
 }
 

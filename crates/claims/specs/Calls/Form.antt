@@ -1,17 +1,16 @@
 -- Made by tools/calls --write from the sources: the public calls of crates/form.
-use Rattle.form.specs.declared.Form.{Form}
 use Rattle.form.specs.declared.Limits.{Limits}
 use Rattle.form.specs.declared.Opened.{Opened}
 use Rattle.form.proofs as contracts
 use Rattle.claims.specs.Call.{Call}
 
--- Limits::defaults() -> Limits
-abbrev pub limitsDefaults : Call
-limitsDefaults = record {
+-- Limits::agreed() -> Limits
+abbrev pub limitsAgreed : Call
+limitsAgreed = record {
   lifetimes = 0;
-  parameters = contracts.Limits.defaults.Kinds.ps;
-  result = contracts.Limits.defaults.Kinds.r;
-  allows = contracts.Limits.defaults.Reads.Post;
+  parameters = contracts.Limits.agreed.Kinds.ps;
+  result = contracts.Limits.agreed.Kinds.r;
+  allows = contracts.Limits.agreed.Reads.Post;
   Answer = Limits;
   answer = λ κs x. x;
   Lent = Unit {0};
@@ -27,20 +26,6 @@ limitsOpen = record {
   result = contracts.Limits.«open».Kinds.r;
   allows = contracts.Limits.«open».Reads.Post;
   Answer = Opened;
-  answer = λ κs x. x;
-  Lent = Unit {0};
-  lent = λ κs a. tt;
-  left = λ κs s. tt;
-}
-
--- Form::defaults() -> Form
-abbrev pub formDefaults : Call
-formDefaults = record {
-  lifetimes = 0;
-  parameters = contracts.Form.defaults.Kinds.ps;
-  result = contracts.Form.defaults.Kinds.r;
-  allows = contracts.Form.defaults.Reads.Post;
-  Answer = Form;
   answer = λ κs x. x;
   Lent = Unit {0};
   lent = λ κs a. tt;

@@ -2,6 +2,7 @@
 use mathlib.Core.Bool.{Bool}
 use denote.Ref.{now}
 use Rattle.session.specs.declared.Copied.{Copied}
+use Rattle.session.specs.declared.Dropped.{Dropped}
 use Rattle.session.specs.declared.Offered.{Offered}
 use Rattle.session.specs.declared.Poured.{Poured}
 use Rattle.session.specs.declared.Session.{Session}
@@ -31,6 +32,20 @@ abbrev pub «open» : Call
   parameters = contracts.«open».Kinds.ps;
   result = contracts.«open».Kinds.r;
   allows = contracts.«open».Reads.Post;
+  Answer = Started;
+  answer = λ κs x. x;
+  Lent = Unit {0};
+  lent = λ κs a. tt;
+  left = λ κs s. tt;
+}
+
+-- open_agreed(session: Session, source: u32) -> Started
+abbrev pub openAgreed : Call
+openAgreed = record {
+  lifetimes = 0;
+  parameters = contracts.open_agreed.Kinds.ps;
+  result = contracts.open_agreed.Kinds.r;
+  allows = contracts.open_agreed.Reads.Post;
   Answer = Started;
   answer = λ κs x. x;
   Lent = Unit {0};
@@ -88,6 +103,20 @@ copyOut = record {
   result = contracts.copy_out.Kinds.r;
   allows = contracts.copy_out.Reads.Post;
   Answer = Copied;
+  answer = λ κs x. x;
+  Lent = Unit {0};
+  lent = λ κs a. tt;
+  left = λ κs s. tt;
+}
+
+-- drop_group(session: Session) -> Dropped
+abbrev pub dropGroup : Call
+dropGroup = record {
+  lifetimes = 0;
+  parameters = contracts.drop_group.Kinds.ps;
+  result = contracts.drop_group.Kinds.r;
+  allows = contracts.drop_group.Reads.Post;
+  Answer = Dropped;
   answer = λ κs x. x;
   Lent = Unit {0};
   lent = λ κs a. tt;

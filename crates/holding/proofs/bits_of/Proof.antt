@@ -9,13 +9,13 @@ use Rattle.holding.proofs.bits_of.Statement.{statement}
 use Rattle.holding.proofs.bits_of.Tie as tie
 
 abbrev Inv-loop : tie.InvT-loop
-Inv-loop flags bits₀ n₀ bits n = (n ≤ length flags) × (bits ≡ bitsOf (drop n flags))
+Inv-loop set bits₀ n₀ bits n = (n ≤ length set) × (bits ≡ bitsOf (drop n set))
 
 abbrev μ-loop : tie.MeasureT-loop
-μ-loop flags bits₀ n₀ bits n = n
+μ-loop set bits₀ n₀ bits n = n
 
 loop-holds : tie.Need-loop-holds Inv-loop μ-loop
-loop-holds c = (omega arith, bits-none (c .before .args .flags .now))
+loop-holds c = (omega arith, bits-none (c .before .args .set .now))
 
 sub-n : tie.Need-sub-n Inv-loop μ-loop
 sub-n c = omega arith

@@ -21,22 +21,29 @@ use Rattle.entries.specs.declared.Counted.{Counted}
 use Rattle.entries.specs.declared.Counted.the-variants as counted
 use Rattle.answers.specs.declared.Answer.{Answer}
 use Rattle.answers.specs.declared.Answer.the-variants as answer
+use Rattle.holding.specs.declared.Described.{Described}
+use Rattle.holding.specs.declared.Described.the-variants as described
+use Rattle.holding.specs.declared.Lost.{Lost}
+use Rattle.holding.specs.declared.Lost.the-variants as lost
 use Rattle.session.specs.declared.Taken.{Taken}
 use Rattle.session.specs.declared.Taken.the-variants as taken
 use Rattle.capture.specs.Capture.{good}
 use Rattle.capture.specs.Run.{recordAnswer, recordOutput, captureRecording}
 use Rattle.capture.specs.declared.Outcome.the-variants as outcome
 use Rattle.lending.specs.Calls.{layIf, layTaken, layWritten, openAnswer, openOctets, offerOctets, pourOctets, copyOctets}
-use Rattle.lending.specs.Calls.{endOctets, joinOctets}
+use Rattle.lending.specs.Calls.{endOctets, joinOctets, dropOctets}
 use Rattle.landing.specs.Host.{packetTold, packetAfter, placeTold, placeAfter, countTold, countAfter, writeTold, writtenAfter, withOutput}
 use Rattle.landing.specs.Host.{writeAfter, outcomeAfter, recordAfter, answerNumber, takenAfter, openNamed, openedNamed}
+use Rattle.landing.specs.Host.{holdingTold, holdingAfter, lostAfter}
 use Rattle.landing.specs.declared.Named.{Named}
 use Rattle.landing.specs.declared.Named.the-variants as named
 use Rattle.claims.specs.Calls.Lent.{LentLNBD, LentKindStartSize, LentCount, LentOutWritten, LentSession, LentSessionLost}
 use Rattle.claims.specs.Calls.Lent.{LentSessionOutWritten}
+use Rattle.claims.specs.Calls.Lent.{LentSourceSequenceTimestampLBHeld, LentLost}
 use Rattle.claims.specs.Demand1.{Numbered, done, refusal, NumberedOrBad, numbered, bad, Refuses, Demand1}
 use Rattle.claims.proofs.Seen.{out-lent, session-lent, holding-lent, answer-with, packet-seen, place-seen, count-seen, write-seen}
 use Rattle.claims.proofs.Seen.{offer-seen}
+use Rattle.claims.proofs.Seen.{holding-seen, lost-seen}
 
 -- ---- the two ways to answer, over all that is seen: 0; or the refusal's number, and what was lent as it was
 did : {X : Type 0} {x : ℕ} {before after made : X} → _≡_ {A = ℕ × X} (x, after) (0, made) → Refuses Numbered x before after
@@ -140,9 +147,23 @@ pour-refuses made {b = b} w p =
           (kept-session (writtenOf made (b .out)) (b .written) (outAfter made (b .out)) _ _ w (p .0) (p .1) h);
     }
 
+-- ---- what a host of two boxes asks
+holding-refuses : (c : Described) {x : ℕ} {b a : LentSourceSequenceTimestampLBHeld} →
+    holdingTold x (a .source) (a .sequence) (a .timestamp) (a .l) (a .b) (a .held)
+    ≡ holdingAfter c (b .source) (b .sequence) (b .timestamp) (b .l) (b .b) (b .held) →
+    Refuses Numbered x b a
+unfolding holdingAfter
+holding-refuses (described.Group s g h) p = did (ap holding-seen p)
+holding-refuses (described.Refused r) p = refused-by r (ap holding-seen p)
+
+lost-refuses : (c : Lost) {x : ℕ} {b a : LentLost} → countTold x (a .lost) ≡ lostAfter c (b .lost) → Refuses Numbered x b a
+unfolding lostAfter
+lost-refuses (lost.Frames n) p = did (ap lost-seen p)
+lost-refuses (lost.Refused r) p = refused-by r (ap lost-seen p)
+
 -- ---- every C call
 pub demand-1 : Demand1
-unfolding offerOctets pourOctets copyOctets endOctets joinOctets
+unfolding offerOctets pourOctets copyOctets endOctets joinOctets dropOctets
 demand-1 = record {
   lvPayloadRead = record { so = packet-refuses _ };
   lvPayloadFrame = record { so = place-refuses _ };
@@ -159,4 +180,7 @@ demand-1 = record {
   lvSessionEnd = record { so = answer-refuses session-lent _ _ _ _ };
   lvHoldingJoin = record { so = answer-refuses out-lent _ _ _ _ };
   lvHoldingPour = record { so = write-refuses _ };
+  lvSessionDrop = record { so = answer-refuses session-lent _ _ _ _ };
+  lvHoldingRead = record { so = holding-refuses _ };
+  lvHoldingLost = record { so = lost-refuses _ };
 }

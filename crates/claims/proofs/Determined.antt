@@ -11,6 +11,7 @@ use Rattle.lending.specs.Calls.{pourOctets}
 use Rattle.claims.specs.Determined.{Determined}
 use Rattle.claims.proofs.Seen.{dst-lent, out-lent, session-lent, holding-lent, alone, reference, only, answer-with, poured}
 use Rattle.claims.proofs.Seen.{lent-poured, packet-seen, place-seen, count-seen, write-seen, offer-seen, pour-seen}
+use Rattle.claims.proofs.Seen.{holding-seen, lost-seen}
 
 -- ---- one equation fixes all that is seen of it; and two do
 by : {A B : Type 0} (seen : A → B) {x y m : A} → x ≡ m → y ≡ m → seen x ≡ seen y
@@ -57,9 +58,8 @@ determined = record {
   frameLowBits = record { equal = by alone };
   frameIsSendable = record { equal = by alone };
   framePart = record { equal = lies };
-  limitsDefaults = record { equal = by alone };
+  limitsAgreed = record { equal = by alone };
   limitsOpen = record { equal = by alone };
-  formDefaults = record { equal = by alone };
   entriesCount = record { equal = by alone };
   entriesSeek = record { equal = by alone };
   entriesWriteCleared = record { equal = by (only out-lent) };
@@ -125,4 +125,16 @@ determined = record {
   lvSessionEnd = record { equal = by-both (answer-with session-lent) };
   lvHoldingJoin = record { equal = by-both (answer-with out-lent) };
   lvHoldingPour = record { equal = by write-seen };
+  payloadReadAgreed = record { equal = by alone };
+  packetWriteAgreed = record { equal = writes };
+  holdingRead = record { equal = by alone };
+  holdingLostBetween = record { equal = by alone };
+  sessionOpenAgreed = record { equal = by alone };
+  sessionDropGroup = record { equal = by alone };
+  lendingDropGroup = record { equal = by-both (answer-with session-lent) };
+  lendingReadHolding = record { equal = by alone };
+  lendingLostBetween = record { equal = by alone };
+  lvSessionDrop = record { equal = by-both (answer-with session-lent) };
+  lvHoldingRead = record { equal = by holding-seen };
+  lvHoldingLost = record { equal = by lost-seen };
 }

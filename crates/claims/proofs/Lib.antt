@@ -13,6 +13,7 @@ pub mod Builds
 pub mod Refusals
 pub mod Buildable
 pub mod Boxes
+pub mod TwoBoxes
 pub mod Captures
 pub mod CapturesRead
 pub mod Marks

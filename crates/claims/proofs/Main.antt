@@ -31,6 +31,7 @@ use Rattle.claims.proofs.Faults.{faults-have-places}
 use Rattle.claims.proofs.Idle.{refuses-everything, pours-erasures, stores-nothing, nods-at-later, invents-lost-frames}
 use Rattle.claims.proofs.Idle.{invents-octet-counts}
 use Rattle.claims.proofs.Determined.{determined}
+use Rattle.claims.proofs.TwoBoxes.{pour-and-drop-alike, lost-between-is-reported}
 
 pub promised : Promised
 promised = record {
@@ -109,4 +110,6 @@ promised = record {
   invents-lost-frames = invents-lost-frames;
   invents-octet-counts = invents-octet-counts;
   determined = determined;
+  pour-and-drop-alike = pour-and-drop-alike;
+  lost-between-is-reported = lost-between-is-reported;
 }

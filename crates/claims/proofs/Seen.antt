@@ -6,8 +6,10 @@ use Rattle.answers.specs.declared.Written.{Written}
 use Rattle.session.specs.declared.Poured.{Poured}
 use Rattle.session.specs.declared.Session.{Session}
 use Rattle.landing.specs.Host.{PacketTold, packetTold, PlaceTold, placeTold, CountTold, countTold, WriteTold, writeTold}
+use Rattle.landing.specs.Host.{HoldingTold, holdingTold}
 use Rattle.claims.specs.Calls.Lent.{LentDst, LentOut, LentSession, LentHolding, LentSessionOut, LentLNBD, LentKindStartSize}
 use Rattle.claims.specs.Calls.Lent.{LentCount, LentOutWritten, LentSessionLost, LentSessionOutWritten}
+use Rattle.claims.specs.Calls.Lent.{LentSourceSequenceTimestampLBHeld, LentLost}
 
 -- ---- octets lent under one name
 abbrev pub dst-lent : List ℕ → LentDst
@@ -60,3 +62,9 @@ offer-seen (countTold x n) session = (x, record { session = session; lost = n })
 
 abbrev pub pour-seen : WriteTold → List ℕ → ℕ × LentSessionOutWritten
 pour-seen (writeTold x n out) session = (x, record { session = session; out = out; written = n })
+
+abbrev pub holding-seen : HoldingTold → ℕ × LentSourceSequenceTimestampLBHeld
+holding-seen (holdingTold x s q t l b h) = (x, record { source = s; sequence = q; timestamp = t; l = l; b = b; held = h })
+
+abbrev pub lost-seen : CountTold → ℕ × LentLost
+lost-seen (countTold x n) = (x, record { lost = n })

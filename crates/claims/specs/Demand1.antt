@@ -45,3 +45,6 @@ pub record Demand1 : Type 0 where
   pub lvSessionEnd : Always landing.lvSessionEnd (Refuses Numbered)
   pub lvHoldingJoin : Always landing.lvHoldingJoin (Refuses Numbered)
   pub lvHoldingPour : Always landing.lvHoldingPour (Refuses Numbered)
+  pub lvSessionDrop : Always landing.lvSessionDrop (Refuses Numbered)
+  pub lvHoldingRead : Always landing.lvHoldingRead (Refuses Numbered)
+  pub lvHoldingLost : Always landing.lvHoldingLost (Refuses Numbered)

@@ -51,9 +51,8 @@ pub record Determined : Type 0 where
   pub frameLowBits : Fixed frame.lowBits
   pub frameIsSendable : Fixed frame.isSendable
   pub framePart : Fixed frame.part
-  pub limitsDefaults : Fixed form.limitsDefaults
+  pub limitsAgreed : Fixed form.limitsAgreed
   pub limitsOpen : Fixed form.limitsOpen
-  pub formDefaults : Fixed form.formDefaults
   pub entriesCount : Fixed entries.count
   pub entriesSeek : Fixed entries.seek
   pub entriesWriteCleared : Fixed entries.writeCleared
@@ -119,3 +118,15 @@ pub record Determined : Type 0 where
   pub lvSessionEnd : Fixed landing.lvSessionEnd
   pub lvHoldingJoin : Fixed landing.lvHoldingJoin
   pub lvHoldingPour : Fixed landing.lvHoldingPour
+  pub payloadReadAgreed : Fixed payload.readAgreed
+  pub packetWriteAgreed : Fixed packet.writeAgreed
+  pub holdingRead : Fixed holding.read
+  pub holdingLostBetween : Fixed holding.lostBetween
+  pub sessionOpenAgreed : Fixed session.openAgreed
+  pub sessionDropGroup : Fixed session.dropGroup
+  pub lendingDropGroup : Fixed lending.dropGroup
+  pub lendingReadHolding : Fixed lending.readHolding
+  pub lendingLostBetween : Fixed lending.lostBetween
+  pub lvSessionDrop : Fixed landing.lvSessionDrop
+  pub lvHoldingRead : Fixed landing.lvHoldingRead
+  pub lvHoldingLost : Fixed landing.lvHoldingLost

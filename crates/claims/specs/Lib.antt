@@ -13,6 +13,7 @@ pub mod Sending
 pub mod Missing
 pub mod Demand3
 pub mod Boxes
+pub mod TwoBoxes
 pub mod Captures
 pub mod Lent
 pub mod Examples

@@ -26,6 +26,7 @@ use Rattle.claims.specs.Faults.{FaultsHavePlaces}
 use Rattle.claims.specs.Idle.{Buildable, RefusesEverything, PoursErasures, StoresNothing, NodsAtLater, InventsLostFrames}
 use Rattle.claims.specs.Idle.{InventsOctetCounts}
 use Rattle.claims.specs.Determined.{Determined}
+use Rattle.claims.specs.TwoBoxes.{PourAndDropAlike, LostBetweenIsReported}
 
 -- every claim of the pages beside this one
 pub record Promised : Type 0 where
@@ -117,3 +118,6 @@ pub record Promised : Type 0 where
   pub invents-lost-frames : InventsLostFrames
   pub invents-octet-counts : InventsOctetCounts
   pub determined : Determined
+  -- a host of two boxes: "ends the group", and "the answer reports e x B lost frames before it"
+  pub pour-and-drop-alike : PourAndDropAlike
+  pub lost-between-is-reported : LostBetweenIsReported

@@ -1,7 +1,7 @@
 // The agreed form of a session and its maxima (document 01, "Payloads").
 use answers::Refusal;
 ghost use mathlib.Core.Path.{_≡_};
-ghost use Rattle.form.specs.Agreed.{opened, defaults, defaultForm};
+ghost use Rattle.form.specs.Agreed.{opened, defaults};
 
 // The agreed maxima: the greatest L and the greatest B.
 pub struct Limits {
@@ -21,8 +21,15 @@ impl Limits {
 
     pub const MAX_B: u8 = 10;
 
-    // The named defaults.
-    pub fn defaults() -> Self
+    // The range of what may be agreed: L at most 0 to 7, B at most 1 to 10.
+    pub const GREATEST_L: u8 = 7;
+
+    pub const LEAST_B: u8 = 1;
+
+    pub const GREATEST_B: u8 = 10;
+
+    // Opens the named defaults, which are in range.
+    pub fn agreed() -> Self
         ensures { λ r. ⌜ r ≡ defaults ⌝ }
     {
         Limits {
@@ -35,13 +42,13 @@ impl Limits {
     pub fn open(max_l: u8, max_b: u8) -> Opened
         ensures { λ r. ⌜ r ≡ opened «max_l» «max_b» ⌝ }
     {
-        if 7 < max_l {
+        if Self::GREATEST_L < max_l {
             return Opened::Refused(Refusal::NotApplicable);
         }
-        if max_b < 1 {
+        if max_b < Self::LEAST_B {
             return Opened::Refused(Refusal::NotApplicable);
         }
-        if 10 < max_b {
+        if Self::GREATEST_B < max_b {
             return Opened::Refused(Refusal::NotApplicable);
         }
         Opened::Agreed(Limits { max_l, max_b })
@@ -52,13 +59,4 @@ impl Limits {
 pub enum Form {
     HeaderFree,
     Interleaved(Limits),
-}
-
-impl Form {
-    // Interleaved, with the named defaults.
-    pub fn defaults() -> Self
-        ensures { λ r. ⌜ r ≡ defaultForm ⌝ }
-    {
-        Form::Interleaved(Limits::defaults())
-    }
 }

@@ -1,15 +1,19 @@
-// Groups (document 01, "Groups"): the holding, one group as far as heard; whether it keeps the rule; a packet put in and compared.
+// Groups (document 01, "Groups"): the holding, one group as far as heard; whether it keeps the rule; a packet put in and compared;
+// what a host of two boxes asks of holdings.
+use answers::Refusal;
 use bundle::Bundle;
 use frame::Vocoder;
 use numbers::GroupNumbers;
+use numbers::Verdict;
 ghost use mathlib.Core.Path.{_≡_};
-ghost use Prim.Native.Nat.{_<_};
+ghost use Prim.Native.Nat.{_<_, _≤_};
 ghost use lib.ListN.{length};
 ghost use Rattle.bundle.specs.Bundles.{bundleIn, sameBundles};
 ghost use Rattle.frame.specs.Shape.{holdingShape, packetsOf, roomOf, shapeOf, voiceOf};
 ghost use Rattle.octets.specs.Octets.{allBelow};
 ghost use Rattle.holding.specs.Group.{Spans, voiceIn, nothing, begun, numbersOf, bare, isNothing, heldAt, bundleAt, withPacket};
 ghost use Rattle.holding.specs.Group.{packetRight, rightIn, sound, holds};
+ghost use Rattle.holding.specs.Asked.{withBit, bitsOf, described, lostBy, lostBetween};
 
 // One group as far as heard. Frame k of packet n has its type at marks[10 * n + k] and its body at room[220 * n + 22 * k ..].
 pub struct Holding {
@@ -21,6 +25,22 @@ pub struct Holding {
     pub held: [bool; 8],
     pub marks: [u8; 80],
     pub room: [u8; 1760],
+}
+
+// What a holding is: its source, the numbers of its group, and which packets it holds, bit N for packet N; or the refusal.
+pub enum Described {
+    Group {
+        source: u32,
+        numbers: GroupNumbers,
+        held: u8,
+    },
+    Refused(Refusal),
+}
+
+// The lost frames between two groups, or the refusal.
+pub enum Lost {
+    Frames(usize),
+    Refused(Refusal),
 }
 
 // The types of a group of which nothing is held: erasures.
@@ -276,4 +296,80 @@ pub fn holds_packet(h: Holding) -> bool
     } else {
         false
     }
+}
+
+// ---- what a host of two boxes asks
+
+// A number with one bit more, the lowest.
+fn with_bit(set: bool, bits: u8) -> u8
+    requires { ⌜ bits < 128 ⌝ }
+    ensures { λ r. ⌜ r ≡ withBit set bits ⌝ }
+{
+    if set {
+        return 1 + 2 * bits;
+    }
+    2 * bits
+}
+
+// Flags as a number: bit N is 1 if flag N is set.
+fn bits_of(set: &[bool]) -> u8
+    requires { ⌜ length (now set) ≤ 8 ⌝ }
+    ensures { λ r. ⌜ r ≡ bitsOf (now (set .entry)) ⌝ }
+{
+    let mut bits: u8 = 0;
+    let mut n = set.len();
+    while 0 < n {
+        n -= 1;
+        bits = with_bit(set[n], bits);
+    }
+    bits
+}
+
+// What a holding is; 21 if it holds no packet.
+pub fn read(h: Holding) -> Described
+    ensures { λ r. ⌜ r ≡ described (voiceIn h) h ⌝ }
+{
+    let holds = holds_packet(h);
+    if holds {
+        let numbers = numbers_of(h);
+        let flags = h.held;
+        let held = bits_of(&flags);
+        return Described::Group {
+            source: h.source,
+            numbers,
+            held,
+        };
+    }
+    Described::Refused(Refusal::NotApplicable)
+}
+
+// The lost frames by what numbers decide of a group that comes after another.
+fn lost_by(verdict: Verdict) -> Lost
+    ensures { λ r. ⌜ r ≡ lostBy verdict ⌝ }
+{
+    match verdict {
+        Verdict::Begins(lost) => Lost::Frames(lost),
+        Verdict::Belongs => Lost::Frames(0),
+        Verdict::Refused(reason) => Lost::Refused(reason),
+    }
+}
+
+// The lost frames between the group of one holding and that of a later one, as a session reports them that poured the first:
+// 21 if either holds no packet, 10 if their sources differ, then 13, 16.
+pub fn lost_between(before: Holding, after: Holding) -> Lost
+    ensures { λ r. ⌜ r ≡ lostBetween (voiceIn before) before after ⌝ }
+{
+    let first = holds_packet(before);
+    if !first {
+        return Lost::Refused(Refusal::NotApplicable);
+    }
+    let second = holds_packet(after);
+    if !second {
+        return Lost::Refused(Refusal::NotApplicable);
+    }
+    if after.source != before.source {
+        return Lost::Refused(Refusal::AnotherSource);
+    }
+    let verdict = numbers::after_poured(numbers_of(before), numbers_of(after));
+    lost_by(verdict)
 }

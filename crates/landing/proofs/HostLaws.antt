@@ -27,12 +27,17 @@ use Rattle.capture.specs.declared.Outcome.{Outcome}
 use Rattle.capture.specs.declared.Outcome.the-variants as outcome
 use Rattle.answers.specs.declared.Answer.{Answer}
 use Rattle.answers.specs.declared.Answer.the-variants as answer
+use Rattle.numbers.specs.declared.GroupNumbers.{GroupNumbers}
+use Rattle.holding.specs.declared.Described.{Described}
+use Rattle.holding.specs.declared.Described.the-variants as described
+use Rattle.holding.specs.declared.Lost.{Lost}
+use Rattle.holding.specs.declared.Lost.the-variants as lost
 use Rattle.session.specs.declared.Taken.{Taken}
 use Rattle.session.specs.declared.Taken.the-variants as taken
 use Rattle.lending.specs.Calls.{openAnswer, openOctets, pourOctets}
 use Rattle.landing.specs.Host.{readNamed, givenNamed, packetTold, packetAfter, placeTold, placeAfter, countTold, countAfter}
 use Rattle.landing.specs.Host.{writtenAfter, withOutput, writeTold, writeAfter, outcomeAfter, recordAfter, answerNumber, takenAfter}
-use Rattle.landing.specs.Host.{openNamed, openedNamed}
+use Rattle.landing.specs.Host.{openNamed, openedNamed, holdingTold, holdingAfter, lostAfter}
 use Rattle.landing.specs.declared.Named.{Named}
 use Rattle.landing.specs.declared.Named.the-variants.{Agreed, Refused}
 
@@ -159,3 +164,24 @@ module _ (named : Named) (source : ℕ) (o : List ℕ) where
   pub open-unnamed : (r : Refusal) → named ≡ Refused r → (answer.Refused r ≡ openNamed named source o) × (o ≡ openedNamed named source o)
   unfolding openNamed openedNamed
   open-unnamed r e = rw e (refl, refl)
+
+-- of a holding
+module _ (w : Described) where
+  pub holding-refused : (r : Refusal) (a s q t l b h : ℕ) → described.Refused r ≡ w → a ≡ numberOf r → holdingTold a s q t l b h ≡ holdingAfter w s q t l b h
+  unfolding holdingAfter
+  holding-refused r a s q t l b h e f = rw (← e) (ap (λ (x : ℕ). holdingTold x s q t l b h) f)
+
+  pub holding-read : (s : ℕ) (g : GroupNumbers) (h s₀ q₀ t₀ l₀ b₀ h₀ : ℕ) → described.Group s g h ≡ w
+      → holdingTold 0 s (g .sequence) (g .timestamp) (g .l) (g .b) h ≡ holdingAfter w s₀ q₀ t₀ l₀ b₀ h₀
+  unfolding holdingAfter
+  holding-read s g h s₀ q₀ t₀ l₀ b₀ h₀ e = rw (← e)
+
+-- of two
+module _ (w : Lost) where
+  pub lost-refused : (r : Refusal) (a n : ℕ) → lost.Refused r ≡ w → a ≡ numberOf r → countTold a n ≡ lostAfter w n
+  unfolding lostAfter
+  lost-refused r a n e q = rw (← e) (ap (λ (x : ℕ). countTold x n) q)
+
+  pub lost-told : (n n₀ : ℕ) → lost.Frames n ≡ w → countTold 0 n ≡ lostAfter w n₀
+  unfolding lostAfter
+  lost-told n n₀ e = rw (← e)

@@ -30,6 +30,10 @@ use Rattle.capture.specs.declared.Outcome.{Outcome}
 use Rattle.capture.specs.declared.Outcome.the-variants as outcome
 use Rattle.answers.specs.declared.Answer.{Answer}
 use Rattle.answers.specs.declared.Answer.the-variants as answer
+use Rattle.holding.specs.declared.Described.{Described}
+use Rattle.holding.specs.declared.Described.the-variants as described
+use Rattle.holding.specs.declared.Lost.{Lost}
+use Rattle.holding.specs.declared.Lost.the-variants as lost
 use Rattle.session.specs.declared.Taken.{Taken}
 use Rattle.session.specs.declared.Taken.the-variants as taken
 use Rattle.lending.specs.Calls.{openAnswer, openOctets}
@@ -134,3 +138,17 @@ openNamed (Refused r) source o = answer.Refused r
 unfoldable pub openedNamed : Named → ℕ → List ℕ → List ℕ
 openedNamed (Agreed f) source o = openOctets o source f
 openedNamed (Refused r) source o = o
+
+-- what a host sees of a holding: the answer, its source, base numbers, L and B, and which packets it holds
+pub data HoldingTold : Type 0 where
+  holdingTold : (answer source sequence timestamp l b held : ℕ) → HoldingTold
+
+-- 0 and the holding's; or the refusal's number, and the rest as it was
+unfoldable pub holdingAfter : Described → ℕ → ℕ → ℕ → ℕ → ℕ → ℕ → HoldingTold
+holdingAfter (described.Group source g held) s₀ q₀ t₀ l₀ b₀ h₀ = holdingTold 0 source (g .sequence) (g .timestamp) (g .l) (g .b) held
+holdingAfter (described.Refused r) s₀ q₀ t₀ l₀ b₀ h₀ = holdingTold (numberOf r) s₀ q₀ t₀ l₀ b₀ h₀
+
+-- and of two: 0 and the lost frames between their groups, or the refusal's number
+unfoldable pub lostAfter : Lost → ℕ → CountTold
+lostAfter (lost.Frames n) n₀ = countTold 0 n
+lostAfter (lost.Refused r) n₀ = countTold (numberOf r) n₀

@@ -8,6 +8,8 @@ use form::Form;
 use form::Limits;
 use frame::Located;
 use frame::Vocoder;
+use holding::Described;
+use holding::Lost;
 use payload::Contents;
 use session::Taken;
 ghost use mathlib.Core.Path.{_≡_};
@@ -18,14 +20,14 @@ ghost use Rattle.frame.specs.Places.{locatedOf};
 ghost use Rattle.lending.specs.Laid.{sessionVoice, holdingVoice};
 ghost use Rattle.capture.specs.Run.{captureKind};
 ghost use Rattle.lending.specs.Calls.{offerAnswer, offerOctets, pourOf, pourOctets, copyAnswer, copyOctets, endAnswer, endOctets};
-ghost use Rattle.lending.specs.Calls.{joinAnswer, joinOctets, pourHeld};
+ghost use Rattle.lending.specs.Calls.{joinAnswer, joinOctets, pourHeld, dropAnswer, dropOctets, readHeld, lostOf};
 ghost use Rattle.payload.specs.Shown.{contentsOf};
 ghost use Rattle.recording.specs.Recording.{recordingRead, recordingMade};
 ghost use Rattle.recording.specs.Shown.{givenIn};
 ghost use Rattle.landing.specs.Host.{namedForm, readNamed, givenNamed, packetTold, packetAfter, placeTold, placeAfter};
 ghost use Rattle.landing.specs.Host.{countTold, countAfter, writtenAfter, writeTold, writeAfter, packetNamed};
 ghost use Rattle.landing.specs.Host.{headerFreeNamed, outcomeAfter, recordAfter, answerNumber, takenAfter, openNamed};
-ghost use Rattle.landing.specs.Host.{openedNamed};
+ghost use Rattle.landing.specs.Host.{openedNamed, holdingTold, holdingAfter, lostAfter};
 
 // The agreed form that a host names by a number and two maxima, or the refusal.
 pub enum Named {
@@ -378,6 +380,15 @@ pub extern "C" fn lv_session_copy(session: &[u8], holding: &mut [u8]) -> u8
     tell(lending::copy_out(session, holding))
 }
 
+// Ends the held group of a session as pouring does, and writes nothing.
+#[no_mangle]
+pub extern "C" fn lv_session_drop(session: &mut [u8]) -> u8
+    ensures { λ r. ⌜ (r ≡ answerNumber (dropAnswer (sessionVoice (now (session .entry))) (now (session .entry))))
+        × (now (session .exit) ≡ dropOctets (sessionVoice (now (session .entry))) (now (session .entry))) ⌝ }
+{
+    tell(lending::drop_group(session))
+}
+
 // Ends a session.
 #[no_mangle]
 pub extern "C" fn lv_session_end(session: &mut [u8]) -> u8
@@ -403,4 +414,56 @@ pub extern "C" fn lv_holding_pour(holding: &[u8], out: &mut [u8], written: &mut 
         ≡ writeAfter (pourHeld (holdingVoice (now (holding .entry))) (now (holding .entry))) (now (written .entry)) (now (out .entry)) ⌝ }
 {
     tell_written(lending::pour_holding(holding, out), written)
+}
+
+// What a holding is: 0, and its source, base numbers, L, B and which packets it holds, bit N for packet N; or the refusal's number,
+// and nothing written.
+#[no_mangle]
+pub extern "C" fn lv_holding_read(
+    holding: &[u8],
+    source: &mut u32,
+    sequence: &mut u16,
+    timestamp: &mut u32,
+    l: &mut u8,
+    b: &mut u8,
+    held: &mut u8,
+) -> u8
+    ensures { λ r. ⌜ holdingTold r (now (source .exit)) (now (sequence .exit)) (now (timestamp .exit)) (now (l .exit)) (now (b .exit)) (now (held .exit))
+        ≡ holdingAfter (readHeld (holdingVoice (now (holding .entry))) (now (holding .entry)))
+        (now (source .entry)) (now (sequence .entry)) (now (timestamp .entry)) (now (l .entry)) (now (b .entry)) (now (held .entry)) ⌝ }
+{
+    let described = lending::read_holding(holding);
+    match described {
+        Described::Refused(reason) => reason.number(),
+        Described::Group {
+            source: got_source,
+            numbers,
+            held: got_held,
+        } => {
+            *source = got_source;
+            *sequence = numbers.sequence;
+            *timestamp = numbers.timestamp;
+            *l = numbers.l;
+            *b = numbers.b;
+            *held = got_held;
+            0
+        }
+    }
+}
+
+// The lost frames between the group of one holding and that of a later one: 0 and their number; or the refusal's number, and nothing
+// written.
+#[no_mangle]
+pub extern "C" fn lv_holding_lost(before: &[u8], after: &[u8], lost: &mut usize) -> u8
+    ensures { λ r. ⌜ countTold r (now (lost .exit))
+        ≡ lostAfter (lostOf (holdingVoice (now (before .entry))) (now (before .entry)) (now (after .entry))) (now (lost .entry)) ⌝ }
+{
+    let found = lending::lost_between(before, after);
+    match found {
+        Lost::Refused(reason) => reason.number(),
+        Lost::Frames(frames) => {
+            *lost = frames;
+            0
+        }
+    }
 }

@@ -17,20 +17,25 @@ use Rattle.answers.specs.declared.Refusal.the-variants.{NoRoom, NotApplicable}
 use Rattle.answers.specs.declared.Written.{Written}
 use Rattle.answers.specs.declared.Written.the-variants as written
 use Rattle.holding.specs.declared.Holding.{Holding}
+use Rattle.holding.specs.Asked.{described, lostBetween}
+use Rattle.holding.specs.declared.Described.{Described}
+use Rattle.holding.specs.declared.Lost.{Lost}
 use Rattle.answers.specs.declared.Answer.{Answer}
 use Rattle.answers.specs.declared.Answer.the-variants as answer
 use Rattle.joining.specs.Joining.{joinOf}
 use Rattle.joining.specs.declared.Joined.{Joined}
 use Rattle.pouring.specs.Pouring.{poured}
-use Rattle.session.specs.Session.{vacant, neverOpened, openedFor, isOpen, refuse, offered, pourMade, ended, afterPour, copied}
+use Rattle.session.specs.Session.{vacant, neverOpened, openedFor, isOpen, refuse, offered, pourMade, ended, afterPour, copied, notDropped, dropped}
 use Rattle.session.specs.declared.Session.{Session}
 use Rattle.session.specs.declared.Started.{Started}
 use Rattle.session.specs.declared.Offered.{Offered}
 use Rattle.session.specs.declared.Copied.{Copied}
+use Rattle.session.specs.declared.Dropped.{Dropped}
 use Rattle.session.specs.declared.Taken.the-variants as taken
 use Rattle.lending.specs.Laid.{holdingIn, holdingLaid, sessionIn, sessionLaid}
 use Rattle.lending.specs.Calls.{roomIn, thenRoom, layIf, layTaken, layWritten, openAnswer, openOctets, offerAnswer, offerOctets}
 use Rattle.lending.specs.Calls.{pourOf, pourOctets, copyAnswer, copyOctets, endAnswer, endOctets, joinAnswer, joinOctets, pourHeld}
+use Rattle.lending.specs.Calls.{dropAnswer, dropOctets, readHeld, lostOf}
 use Rattle.lending.proofs.LaidLaws.{long-enough, too-short, session-short}
 
 -- ---- room for what is given: 15, or w is laid out
@@ -151,6 +156,32 @@ module _ (v : Voice) (o out : List ℕ) (s : Session) (x : Copied) (e : s ≡ se
   unfolding copyAnswer copyOctets
   copy-done r after f g = ends-done _ out _ r after _ (ap (λ (y : Copied). y .answer) (sym copied-as) ∙ f) (ap (λ (y : Copied). holdingLaid (y .holding)) copied-as) g
 
+-- ---- dropping
+module _ (v : Voice) (o : List ℕ) (s : Session) (x : Dropped) (e : s ≡ sessionIn o) (q : x ≡ dropped v s) where
+  dropped-as : x ≡ dropped v (sessionIn o)
+  dropped-as = q ∙ ap (dropped v) e
+
+  answered-drop : dropped v (sessionIn o) .answer ≡ x .answer
+  answered-drop = ap (λ (y : Dropped). y .answer) (sym dropped-as)
+
+  pub drop-refused : (r : Refusal) → x .answer ≡ answer.Refused r → (answer.Refused r ≡ dropAnswer v o) × (o ≡ dropOctets v o)
+  unfolding dropAnswer dropOctets layIf
+  drop-refused r f = rw (answered-drop ∙ f) (refl, refl)
+
+  pub drop-done : (after : List ℕ) → x .answer ≡ answer.Done → after ≡ over o 0 (sessionLaid (x .session)) → (answer.Done ≡ dropAnswer v o) × (after ≡ dropOctets v o)
+  unfolding dropAnswer dropOctets layIf
+  drop-done after f g = rw (answered-drop ∙ f) (refl, g ∙ ap (λ (y : Dropped). over o 0 (sessionLaid (y .session))) dropped-as)
+
+  -- a session that is too short drops nothing
+  pub dropped-long : x .answer ≡ answer.Done → 2304 ≤ length o
+  unfolding dropped notDropped isOpen neverOpened vacant
+  dropped-long f = or-short o none
+    where
+      none : sessionIn o ≡ neverOpened holdingShape → 2304 ≤ length o
+      none z =
+          let n : answer.Refused NotApplicable ≡ answer.Done = ap (λ (t : Session). dropped v t .answer) (sym z) ∙ answered-drop ∙ f in
+          apart (cc)
+
 -- ---- ending
 pub end-short : (o : List ℕ) → length o < 2304 → (answer.Refused NoRoom ≡ endAnswer o) × (o ≡ endOctets o)
 unfolding endAnswer endOctets
@@ -177,3 +208,12 @@ module _ (v : Voice) (a b out : List ℕ) (h k : Holding) (x : Joined) (e : h �
 pub held-poured : (v : Voice) (o before after : List ℕ) (h : Holding) (w : Written) → h ≡ holdingIn o → Writes (poured v h) before w after → Writes (pourHeld v o) before w after
 unfolding pourHeld
 held-poured v o before after h w e x = writes-as _ _ _ _ _ (ap (poured v) (sym e)) x
+
+-- ---- what a host of two boxes asks
+pub held-read : (v : Voice) (o : List ℕ) (h : Holding) (x : Described) → h ≡ holdingIn o → x ≡ described v h → x ≡ readHeld v o
+unfolding readHeld
+held-read v o h x e q = q ∙ ap (described v) e
+
+pub held-lost : (v : Voice) (a b : List ℕ) (h k : Holding) (x : Lost) → h ≡ holdingIn a → k ≡ holdingIn b → x ≡ lostBetween v h k → x ≡ lostOf v a b
+unfolding lostOf
+held-lost v a b h k x e f q = q ∙ ap (λ (y : Holding). lostBetween v y k) e ∙ ap (lostBetween v (holdingIn a)) f

@@ -12,9 +12,12 @@ use Rattle.answers.specs.declared.Written.{Written}
 use Rattle.answers.specs.declared.Written.the-variants as written
 use Rattle.answers.specs.declared.Answer.{Answer}
 use Rattle.answers.specs.declared.Answer.the-variants as answer
+use Rattle.holding.specs.Asked.{described, lostBetween}
+use Rattle.holding.specs.declared.Described.{Described}
+use Rattle.holding.specs.declared.Lost.{Lost}
 use Rattle.joining.specs.Joining.{joinOf}
 use Rattle.pouring.specs.Pouring.{poured}
-use Rattle.session.specs.Session.{neverOpened, openedFor, offered, pourMade, ended, copied}
+use Rattle.session.specs.Session.{neverOpened, openedFor, offered, pourMade, ended, copied, dropped}
 use Rattle.session.specs.declared.Started.{Started}
 use Rattle.session.specs.declared.Taken.{Taken}
 use Rattle.session.specs.declared.Taken.the-variants as taken
@@ -67,7 +70,7 @@ unfoldable pub offerOctets : Voice → List ℕ → ℕ → ℕ → ℕ → List
 offerOctets v o source sequence timestamp p =
     layTaken (offerAnswer v o source sequence timestamp p) o (sessionLaid (offered v (sessionIn o) source sequence timestamp p .session))
 
--- ---- pouring, copying out, ending
+-- ---- pouring, copying out, dropping, ending
 unfoldable pub pourOf : Voice → List ℕ → Made
 pourOf v o = pourMade v (sessionIn o)
 
@@ -82,6 +85,14 @@ copyAnswer v o out = thenRoom (copied v (sessionIn o) .answer) out
 -- the holding's octets after copying out
 unfoldable pub copyOctets : Voice → List ℕ → List ℕ → List ℕ
 copyOctets v o out = layIf (copyAnswer v o out) out (holdingLaid (copied v (sessionIn o) .holding))
+
+-- the answer to dropping: 21, which a session that is too short answers
+unfoldable pub dropAnswer : Voice → List ℕ → Answer
+dropAnswer v o = dropped v (sessionIn o) .answer
+
+-- the session's octets after dropping
+unfoldable pub dropOctets : Voice → List ℕ → List ℕ
+dropOctets v o = layIf (dropAnswer v o) o (sessionLaid (dropped v (sessionIn o) .session))
 
 -- the answer to ending: 15, or done
 unfoldable pub endAnswer : List ℕ → Answer
@@ -102,3 +113,13 @@ joinOctets v a b out = layIf (joinAnswer v a b out) out (holdingLaid (joinOf v (
 -- what pouring a holding makes
 unfoldable pub pourHeld : Voice → List ℕ → Made
 pourHeld v o = poured v (holdingIn o)
+
+-- ---- what a host of two boxes asks: 21, which a holding that is too short answers
+
+-- what a holding is
+unfoldable pub readHeld : Voice → List ℕ → Described
+readHeld v o = described v (holdingIn o)
+
+-- the lost frames between two groups
+unfoldable pub lostOf : Voice → List ℕ → List ℕ → Lost
+lostOf v a b = lostBetween v (holdingIn a) (holdingIn b)

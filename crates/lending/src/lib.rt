@@ -5,7 +5,9 @@ use answers::Refusal;
 use answers::Written;
 use form::Form;
 use form::Limits;
+use holding::Described;
 use holding::Holding;
+use holding::Lost;
 use session::Session;
 use session::Taken;
 ghost use mathlib.Core.Path.{_≡_};
@@ -16,6 +18,7 @@ ghost use Rattle.answers.specs.Outputs.{Writes};
 ghost use Rattle.octets.specs.Octets.{over, shifted};
 ghost use Rattle.lending.specs.Calls.{openAnswer, openOctets, offerAnswer, offerOctets, pourOf, pourOctets, copyAnswer};
 ghost use Rattle.lending.specs.Calls.{copyOctets, endAnswer, endOctets, joinAnswer, joinOctets, pourHeld, roomIn, layIf};
+ghost use Rattle.lending.specs.Calls.{dropAnswer, dropOctets, readHeld, lostOf};
 ghost use Rattle.lending.specs.Laid.{sessionVoice, holdingVoice, flagOctet, isSet, numberOctets, frameOctets, holdingOctets, holdingAt, isLaid};
 ghost use Rattle.lending.specs.Laid.{holdingIn, holdingLaid, formOctets, formAt, lastOctets, sessionHead, sessionLaid};
 ghost use Rattle.lending.specs.Laid.{sessionAt, sessionIn};
@@ -398,6 +401,24 @@ pub fn copy_out(session: &[u8], out: &mut [u8]) -> Answer
     }
 }
 
+// Ends the held group as pouring does, and writes nothing.
+pub fn drop_group(session: &mut [u8]) -> Answer
+    ensures { λ r. ⌜ (r ≡ dropAnswer (sessionVoice (now (session .entry))) (now (session .entry)))
+        × (now (session .exit) ≡ dropOctets (sessionVoice (now (session .entry))) (now (session .entry))) ⌝ }
+{
+    let before = session_in(session);
+    let dropped = session::drop_group(before);
+    let answer = dropped.answer;
+    match answer {
+        Answer::Refused(reason) => Answer::Refused(reason),
+        Answer::Done => {
+            let after = dropped.session;
+            lay_session(session, after);
+            Answer::Done
+        }
+    }
+}
+
 // Ends a session: all its octets are zero.
 pub fn end(session: &mut [u8]) -> Answer
     ensures { λ r. ⌜ (r ≡ endAnswer (now (session .entry))) × (now (session .exit) ≡ endOctets (now (session .entry))) ⌝ }
@@ -430,4 +451,18 @@ pub fn pour_holding(holding: &[u8], out: &mut [u8]) -> Written
     ensures { λ r. ⌜ Writes (pourHeld (holdingVoice (now (holding .entry))) (now (holding .entry))) (now (out .entry)) r (now (out .exit)) ⌝ }
 {
     pouring::pour(holding_in(holding), out)
+}
+
+// What a holding is.
+pub fn read_holding(holding: &[u8]) -> Described
+    ensures { λ r. ⌜ r ≡ readHeld (holdingVoice (now (holding .entry))) (now (holding .entry)) ⌝ }
+{
+    holding::read(holding_in(holding))
+}
+
+// The lost frames between the group of one holding and that of a later one.
+pub fn lost_between(before: &[u8], after: &[u8]) -> Lost
+    ensures { λ r. ⌜ r ≡ lostOf (holdingVoice (now (before .entry))) (now (before .entry)) (now (after .entry)) ⌝ }
+{
+    holding::lost_between(holding_in(before), holding_in(after))
 }

@@ -13,7 +13,7 @@ ghost use lib.ListN.{length};
 ghost use Rattle.answers.specs.Outputs.{Writes};
 ghost use Rattle.entries.specs.Kind.{kindOf};
 ghost use Rattle.entries.specs.Entries.{entriesIn};
-ghost use Rattle.form.specs.Agreed.{vocoderOf};
+ghost use Rattle.form.specs.Agreed.{vocoderOf, defaultForm};
 ghost use Rattle.form.specs.declared.Form.the-variants.{Interleaved};
 ghost use Rattle.frame.specs.FrameTable.{typesOf};
 ghost use Rattle.frame.specs.Places.{frameAt};
@@ -198,6 +198,14 @@ pub fn write(form: Form, l: u8, n: u8, b: u8, d: u8, entries: &[u8], out: &mut [
             out,
         ),
     }
+}
+
+// The same in the form that is agreed where none is named.
+pub fn write_agreed(l: u8, n: u8, b: u8, d: u8, entries: &[u8], out: &mut [u8]) -> Written
+    ensures { λ r. ⌜ Writes (packetMade (kindOf (vocoderOf defaultForm)) defaultForm l n b d (now (entries .entry))) (now (out .entry)) r (now (out .exit)) ⌝ }
+{
+    let form = Form::Interleaved(Limits::agreed());
+    write(form, l, n, b, d, entries, out)
 }
 
 // The body of the one entry.

@@ -16,7 +16,7 @@ ghost use Rattle.frame.specs.Shape.{holdingShape};
 ghost use Rattle.form.specs.declared.Form.the-variants.{HeaderFree, Interleaved};
 ghost use Rattle.frame.specs.Entry.{typeOf};
 ghost use Rattle.frame.specs.FrameTable.{rowsOf};
-ghost use Rattle.form.specs.Agreed.{tableOf};
+ghost use Rattle.form.specs.Agreed.{tableOf, defaultForm};
 ghost use Rattle.frame.specs.Places.{locatedOf, bodyOf, startOf, VeryPart};
 ghost use Rattle.payload.specs.Payload.{readAs, interleaved, toc, total};
 ghost use Rattle.payload.specs.Shown.{contentsOf, walked, givenAs, framesRead};
@@ -138,6 +138,13 @@ pub fn read(form: Form, payload: &[u8]) -> Contents
         Form::HeaderFree => read_header_free(Vocoder::Evrc, payload),
         Form::Interleaved(limits) => read_interleaved(Vocoder::Evrc, limits, payload),
     }
+}
+
+// The same in the form that is agreed where none is named.
+pub fn read_agreed(payload: &[u8]) -> Contents
+    ensures { λ r. ⌜ r ≡ contentsOf (readAs (tableOf defaultForm) defaultForm (now (payload .entry))) ⌝ }
+{
+    read(Form::Interleaved(Limits::agreed()), payload)
 }
 
 // The start of body k: behind octet 0, the b entries, and the bodies before it.

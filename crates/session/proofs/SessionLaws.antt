@@ -40,11 +40,12 @@ use Rattle.answers.specs.declared.Written.{Written}
 use Rattle.pouring.specs.Pouring.{poured}
 use Rattle.session.specs.Session.{formRight, openedFor, vacant, fresh, lastRight, groupRight, isOpen, refuse, accept, withGroup}
 use Rattle.session.specs.Session.{lastNumbers, groupBefore, begins, belongs, placedBy, placed, arrival, judged, received, offered}
-use Rattle.session.specs.Session.{pourMade, noCopy, copied}
+use Rattle.session.specs.Session.{pourMade, ended, noCopy, copied, notDropped, dropped}
 use Rattle.session.specs.declared.Session.{Session}
 use Rattle.session.specs.declared.Arrival.{Arrival}
 use Rattle.session.specs.declared.Started.{Started}
 use Rattle.session.specs.declared.Copied.{Copied}
+use Rattle.session.specs.declared.Dropped.{Dropped}
 
 -- ---- the agreed form
 pub form-agreed : (m a : Limits) → opened.Agreed a ≡ opened (m .«max_l») (m .«max_b») → true ≡ formRight (Interleaved m)
@@ -180,6 +181,21 @@ module _ (v : Voice) (s : Session) where
   pub copy-group : isOpen v s ≡ true → isNothing (v .shape) (s .group) ≡ false → _≡_ {A = Copied} (record { answer = answer.Done; holding = s .group }) (copied v s)
   unfolding copied
   copy-group e f = simp (e, f)
+
+-- ---- dropping
+module _ (v : Voice) (s : Session) where
+  pub drop-closed : isOpen v s ≡ false → notDropped s ≡ dropped v s
+  unfolding dropped
+  drop-closed e = simp e
+
+  pub drop-vacant : isOpen v s ≡ true → isNothing (v .shape) (s .group) ≡ true → notDropped s ≡ dropped v s
+  unfolding dropped
+  drop-vacant e f = simp (e, f)
+
+  pub drop-group : (t : Session) → isOpen v s ≡ true → isNothing (v .shape) (s .group) ≡ false → t ≡ ended (v .shape) s
+      → _≡_ {A = Dropped} (record { answer = answer.Done; session = t }) (dropped v s)
+  unfolding dropped
+  drop-group t e f q = simp (e, f) (ap (λ (x : Session). record { answer = answer.Done; session = x }) q)
 
 -- ---- pouring
 module _ (v : Voice) (s : Session) where

@@ -35,6 +35,7 @@ use Rattle.session.specs.declared.Taken.the-variants.{Accepted, Refused}
 use Rattle.session.specs.declared.Offered.{Offered}
 use Rattle.session.specs.declared.Started.{Started}
 use Rattle.session.specs.declared.Copied.{Copied}
+use Rattle.session.specs.declared.Dropped.{Dropped}
 
 -- ---- open, and not open
 
@@ -170,7 +171,7 @@ unfoldable pub offered : Voice → Session → ℕ → ℕ → ℕ → List ℕ 
 offered v s source sequence timestamp p =
     cond (isOpen v s) (received v s source sequence timestamp p) (refuse s NotApplicable)
 
--- ---- pouring, copying out, ending
+-- ---- pouring, copying out, dropping, ending
 
 -- "Checks: session open and group held (21), room (15)."
 unfoldable pub pourMade : Voice → Session → Made
@@ -204,3 +205,14 @@ unfoldable pub copied : Voice → Session → Copied
 copied v s =
     cond (isOpen v s) (cond (isNothing (v .shape) (s .group)) (noCopy (v .shape)) (record { answer = answer.Done; holding = s .group }))
     (noCopy (v .shape))
+
+-- 21, and the session as it was
+unfoldable pub notDropped : Session → Dropped
+notDropped s = record { answer = answer.Refused NotApplicable; session = s }
+
+-- a group dropped is ended as pouring "ends the group", and nothing is written: "session open and group held (21)"
+unfoldable pub dropped : Voice → Session → Dropped
+dropped v s =
+    cond (isOpen v s)
+    (cond (isNothing (v .shape) (s .group)) (notDropped s) (record { answer = answer.Done; session = ended (v .shape) s }))
+    (notDropped s)

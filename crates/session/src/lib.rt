@@ -1,4 +1,4 @@
-// Sessions (document 01, "Session"): open, offer, pour, copy out, end. A session is carried by value.
+// Sessions (document 01, "Session"): open, offer, pour, copy out, drop, end. A session is carried by value.
 use answers::Answer;
 use answers::Refusal;
 use answers::Written;
@@ -14,11 +14,12 @@ use payload::Contents;
 ghost use mathlib.Core.Path.{_≡_};
 ghost use Prim.Native.Nat.{_<_};
 ghost use Rattle.answers.specs.Outputs.{Writes};
-ghost use Rattle.form.specs.Agreed.{voiceFor};
+ghost use Rattle.form.specs.Agreed.{voiceFor, defaultForm};
 ghost use Rattle.frame.specs.Shape.{holdingShape};
 ghost use Rattle.session.specs.Session.{vacant, neverOpened, formRight, openedFor, lastRight, groupRight, isOpen, refuse};
 ghost use Rattle.session.specs.Session.{accept, withGroup, lastNumbers, groupBefore, begins, belongs, placed, received};
 ghost use Rattle.session.specs.Session.{offered, pourMade, ended, afterPour, noCopy, copied};
+ghost use Rattle.session.specs.Session.{notDropped, dropped};
 
 // A session: the source and the agreed form it was opened for, the group it holds (a holding of nothing if it holds none), and
 // the numbers of the last group it poured, if it poured one.
@@ -65,6 +66,11 @@ pub struct Poured {
 pub struct Copied {
     pub answer: Answer,
     pub holding: Holding,
+}
+
+pub struct Dropped {
+    pub answer: Answer,
+    pub session: Session,
 }
 
 // A session that holds no group and remembers none.
@@ -124,6 +130,13 @@ pub fn open(session: Session, source: u32, form: Form) -> Started
             session,
         }
     }
+}
+
+// Opens a session in the form that is agreed where none is named.
+pub fn open_agreed(session: Session, source: u32) -> Started
+    ensures { λ r. ⌜ r ≡ openedFor holdingShape session source defaultForm ⌝ }
+{
+    open(session, source, Form::Interleaved(Limits::agreed()))
 }
 
 // Whether L and B of the last poured group are in range, if there is one.
@@ -394,6 +407,36 @@ pub fn copy_out(session: Session) -> Copied
     Copied {
         answer: Answer::Done,
         holding: group,
+    }
+}
+
+// A refused drop: the session is as it was.
+fn not_dropped(session: Session) -> Dropped
+    ensures { λ r. ⌜ r ≡ notDropped session ⌝ }
+{
+    Dropped {
+        answer: Answer::Refused(Refusal::NotApplicable),
+        session,
+    }
+}
+
+// Ends the held group as pouring does, and writes nothing; 21 where the session is not open or holds none.
+pub fn drop_group(session: Session) -> Dropped
+    ensures { λ r. ⌜ r ≡ dropped (voiceFor (session .form)) session ⌝ }
+{
+    let ready = is_open(session);
+    if !ready {
+        return not_dropped(session);
+    }
+    let group = session.group;
+    let no_group = holding::is_nothing(group);
+    if no_group {
+        return not_dropped(session);
+    }
+    let dropped = ended(session);
+    Dropped {
+        answer: Answer::Done,
+        session: dropped,
     }
 }
 

@@ -2,7 +2,9 @@
 use Prim.Native.Nat.{ℕ}
 use mathlib.Core.Bool.{Bool}
 use Rattle.bundle.specs.declared.Bundle.{Bundle}
+use Rattle.holding.specs.declared.Described.{Described}
 use Rattle.holding.specs.declared.Holding.{Holding}
+use Rattle.holding.specs.declared.Lost.{Lost}
 use Rattle.numbers.specs.declared.GroupNumbers.{GroupNumbers}
 use Rattle.holding.proofs as contracts
 use Rattle.claims.specs.Call.{Call}
@@ -146,6 +148,38 @@ holdsPacket = record {
   answer = λ κs x. x;
   Given = Holding;
   given = λ κs a. a .0;
+  Lent = Unit {0};
+  lent = λ κs a. tt;
+  left = λ κs s. tt;
+}
+
+-- read(h: Holding) -> Described
+abbrev pub read : Call
+read = record {
+  lifetimes = 0;
+  parameters = contracts.read.Kinds.ps;
+  result = contracts.read.Kinds.r;
+  allows = contracts.read.Reads.Post;
+  Answer = Described;
+  answer = λ κs x. x;
+  Given = Holding;
+  given = λ κs a. a .0;
+  Lent = Unit {0};
+  lent = λ κs a. tt;
+  left = λ κs s. tt;
+}
+
+-- lost_between(before: Holding, after: Holding) -> Lost
+abbrev pub lostBetween : Call
+lostBetween = record {
+  lifetimes = 0;
+  parameters = contracts.lost_between.Kinds.ps;
+  result = contracts.lost_between.Kinds.r;
+  allows = contracts.lost_between.Reads.Post;
+  Answer = Lost;
+  answer = λ κs x. x;
+  Given = Holding × Holding;
+  given = λ κs a. (a .0, a .1 .0);
   Lent = Unit {0};
   lent = λ κs a. tt;
   left = λ κs s. tt;

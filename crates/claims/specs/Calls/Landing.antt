@@ -4,8 +4,8 @@ use mathlib.Core.List.{List}
 use denote.Ref.{now}
 use Rattle.landing.proofs as contracts
 use Rattle.claims.specs.Call.{Call}
-use Rattle.claims.specs.Calls.Lent.{LentCount, LentHolding, LentKindStartSize, LentLNBD, LentOut, LentOutWritten, LentSession}
-use Rattle.claims.specs.Calls.Lent.{LentSessionLost, LentSessionOutWritten}
+use Rattle.claims.specs.Calls.Lent.{LentCount, LentHolding, LentKindStartSize, LentLNBD, LentLost, LentOut, LentOutWritten}
+use Rattle.claims.specs.Calls.Lent.{LentSession, LentSessionLost, LentSessionOutWritten, LentSourceSequenceTimestampLBHeld}
 
 -- lv_payload_read(form: u8, max_l: u8, max_b: u8, payload: &[u8], l: &mut u8, n: &mut u8, b: &mut u8, d: &mut u8) -> u8
 abbrev pub lvPayloadRead : Call
@@ -230,6 +230,22 @@ lvSessionCopy = record {
   left = λ κs s. record { holding = now (s .1 .0) };
 }
 
+-- lv_session_drop(session: &mut [u8]) -> u8
+abbrev pub lvSessionDrop : Call
+lvSessionDrop = record {
+  lifetimes = 1;
+  parameters = contracts.lv_session_drop.Kinds.ps;
+  result = contracts.lv_session_drop.Kinds.r;
+  allows = contracts.lv_session_drop.Reads.Post;
+  Answer = ℕ;
+  answer = λ κs x. x;
+  Given = Unit {0};
+  given = λ κs a. tt;
+  Lent = LentSession;
+  lent = λ κs a. record { session = now (a .0) };
+  left = λ κs s. record { session = now (s .0) };
+}
+
 -- lv_session_end(session: &mut [u8]) -> u8
 abbrev pub lvSessionEnd : Call
 lvSessionEnd = record {
@@ -276,4 +292,50 @@ lvHoldingPour = record {
   Lent = LentOutWritten;
   lent = λ κs a. record { out = now (a .1 .0); written = now (a .1 .1 .0) };
   left = λ κs s. record { out = now (s .1 .0); written = now (s .1 .1 .0) };
+}
+
+-- lv_holding_read(holding: &[u8], source: &mut u32, sequence: &mut u16, timestamp: &mut u32, l: &mut u8, b: &mut u8, held: &mut u8) -> u8
+abbrev pub lvHoldingRead : Call
+lvHoldingRead = record {
+  lifetimes = 7;
+  parameters = contracts.lv_holding_read.Kinds.ps;
+  result = contracts.lv_holding_read.Kinds.r;
+  allows = contracts.lv_holding_read.Reads.Post;
+  Answer = ℕ;
+  answer = λ κs x. x;
+  Given = List ℕ;
+  given = λ κs a. now (a .0);
+  Lent = LentSourceSequenceTimestampLBHeld;
+  lent = λ κs a. record {
+    source = now (a .1 .0);
+    sequence = now (a .1 .1 .0);
+    timestamp = now (a .1 .1 .1 .0);
+    l = now (a .1 .1 .1 .1 .0);
+    b = now (a .1 .1 .1 .1 .1 .0);
+    held = now (a .1 .1 .1 .1 .1 .1 .0);
+  };
+  left = λ κs s. record {
+    source = now (s .1 .0);
+    sequence = now (s .1 .1 .0);
+    timestamp = now (s .1 .1 .1 .0);
+    l = now (s .1 .1 .1 .1 .0);
+    b = now (s .1 .1 .1 .1 .1 .0);
+    held = now (s .1 .1 .1 .1 .1 .1 .0);
+  };
+}
+
+-- lv_holding_lost(before: &[u8], after: &[u8], lost: &mut usize) -> u8
+abbrev pub lvHoldingLost : Call
+lvHoldingLost = record {
+  lifetimes = 3;
+  parameters = contracts.lv_holding_lost.Kinds.ps;
+  result = contracts.lv_holding_lost.Kinds.r;
+  allows = contracts.lv_holding_lost.Reads.Post;
+  Answer = ℕ;
+  answer = λ κs x. x;
+  Given = List ℕ × List ℕ;
+  given = λ κs a. (now (a .0), now (a .1 .0));
+  Lent = LentLost;
+  lent = λ κs a. record { lost = now (a .1 .1 .0) };
+  left = λ κs s. record { lost = now (s .1 .1 .0) };
 }

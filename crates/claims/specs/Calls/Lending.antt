@@ -5,6 +5,8 @@ use denote.Ref.{now}
 use Rattle.answers.specs.declared.Answer.{Answer}
 use Rattle.answers.specs.declared.Written.{Written}
 use Rattle.form.specs.declared.Form.{Form}
+use Rattle.holding.specs.declared.Described.{Described}
+use Rattle.holding.specs.declared.Lost.{Lost}
 use Rattle.session.specs.declared.Taken.{Taken}
 use Rattle.lending.proofs as contracts
 use Rattle.claims.specs.Call.{Call}
@@ -74,6 +76,22 @@ copyOut = record {
   left = λ κs s. record { out = now (s .1 .0) };
 }
 
+-- drop_group(session: &mut [u8]) -> Answer
+abbrev pub dropGroup : Call
+dropGroup = record {
+  lifetimes = 1;
+  parameters = contracts.drop_group.Kinds.ps;
+  result = contracts.drop_group.Kinds.r;
+  allows = contracts.drop_group.Reads.Post;
+  Answer = Answer;
+  answer = λ κs x. x;
+  Given = Unit {0};
+  given = λ κs a. tt;
+  Lent = LentSession;
+  lent = λ κs a. record { session = now (a .0) };
+  left = λ κs s. record { session = now (s .0) };
+}
+
 -- end(session: &mut [u8]) -> Answer
 abbrev pub end : Call
 end = record {
@@ -120,4 +138,36 @@ pourHolding = record {
   Lent = LentOut;
   lent = λ κs a. record { out = now (a .1 .0) };
   left = λ κs s. record { out = now (s .1 .0) };
+}
+
+-- read_holding(holding: &[u8]) -> Described
+abbrev pub readHolding : Call
+readHolding = record {
+  lifetimes = 1;
+  parameters = contracts.read_holding.Kinds.ps;
+  result = contracts.read_holding.Kinds.r;
+  allows = contracts.read_holding.Reads.Post;
+  Answer = Described;
+  answer = λ κs x. x;
+  Given = List ℕ;
+  given = λ κs a. now (a .0);
+  Lent = Unit {0};
+  lent = λ κs a. tt;
+  left = λ κs s. tt;
+}
+
+-- lost_between(before: &[u8], after: &[u8]) -> Lost
+abbrev pub lostBetween : Call
+lostBetween = record {
+  lifetimes = 2;
+  parameters = contracts.lost_between.Kinds.ps;
+  result = contracts.lost_between.Kinds.r;
+  allows = contracts.lost_between.Reads.Post;
+  Answer = Lost;
+  answer = λ κs x. x;
+  Given = List ℕ × List ℕ;
+  given = λ κs a. (now (a .0), now (a .1 .0));
+  Lent = Unit {0};
+  lent = λ κs a. tt;
+  left = λ κs s. tt;
 }

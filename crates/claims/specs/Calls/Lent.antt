@@ -27,6 +27,10 @@ pub record LentLNBD : Type 0 where
   pub b : ℕ
   pub d : ℕ
 
+-- lost
+pub record LentLost : Type 0 where
+  pub lost : ℕ
+
 -- out
 pub record LentOut : Type 0 where
   pub out : List ℕ
@@ -55,3 +59,12 @@ pub record LentSessionOutWritten : Type 0 where
   pub session : List ℕ
   pub out : List ℕ
   pub written : ℕ
+
+-- source, sequence, timestamp, l, b, held
+pub record LentSourceSequenceTimestampLBHeld : Type 0 where
+  pub source : ℕ
+  pub sequence : ℕ
+  pub timestamp : ℕ
+  pub l : ℕ
+  pub b : ℕ
+  pub held : ℕ

@@ -24,6 +24,22 @@ write = record {
   left = λ κs s. record { out = now (s .1 .1 .1 .1 .1 .1 .0) };
 }
 
+-- write_agreed(l: u8, n: u8, b: u8, d: u8, entries: &[u8], out: &mut [u8]) -> Written
+abbrev pub writeAgreed : Call
+writeAgreed = record {
+  lifetimes = 2;
+  parameters = contracts.write_agreed.Kinds.ps;
+  result = contracts.write_agreed.Kinds.r;
+  allows = contracts.write_agreed.Reads.Post;
+  Answer = Written;
+  answer = λ κs x. x;
+  Given = ℕ × (ℕ × (ℕ × (ℕ × List ℕ)));
+  given = λ κs a. (a .0, (a .1 .0, (a .1 .1 .0, (a .1 .1 .1 .0, now (a .1 .1 .1 .1 .0)))));
+  Lent = LentOut;
+  lent = λ κs a. record { out = now (a .1 .1 .1 .1 .1 .0) };
+  left = λ κs s. record { out = now (s .1 .1 .1 .1 .1 .0) };
+}
+
 -- write_header_free(form: Form, entries: &[u8], out: &mut [u8]) -> Written
 abbrev pub writeHeaderFree : Call
 writeHeaderFree = record {

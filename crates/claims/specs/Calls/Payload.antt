@@ -25,6 +25,22 @@ read = record {
   left = λ κs s. tt;
 }
 
+-- read_agreed(payload: &[u8]) -> Contents
+abbrev pub readAgreed : Call
+readAgreed = record {
+  lifetimes = 1;
+  parameters = contracts.read_agreed.Kinds.ps;
+  result = contracts.read_agreed.Kinds.r;
+  allows = contracts.read_agreed.Reads.Post;
+  Answer = Contents;
+  answer = λ κs x. x;
+  Given = List ℕ;
+  given = λ κs a. now (a .0);
+  Lent = Unit {0};
+  lent = λ κs a. tt;
+  left = λ κs s. tt;
+}
+
 -- locate(form: Form, payload: &[u8], k: usize) -> Located
 abbrev pub locate : Call
 locate = record {

@@ -5,6 +5,7 @@ use mathlib.Core.List.{List}
 use denote.Ref.{now}
 use Rattle.form.specs.declared.Form.{Form}
 use Rattle.session.specs.declared.Copied.{Copied}
+use Rattle.session.specs.declared.Dropped.{Dropped}
 use Rattle.session.specs.declared.Offered.{Offered}
 use Rattle.session.specs.declared.Poured.{Poured}
 use Rattle.session.specs.declared.Session.{Session}
@@ -40,6 +41,22 @@ abbrev pub «open» : Call
   answer = λ κs x. x;
   Given = Session × (ℕ × Form);
   given = λ κs a. (a .0, (a .1 .0, a .1 .1 .0));
+  Lent = Unit {0};
+  lent = λ κs a. tt;
+  left = λ κs s. tt;
+}
+
+-- open_agreed(session: Session, source: u32) -> Started
+abbrev pub openAgreed : Call
+openAgreed = record {
+  lifetimes = 0;
+  parameters = contracts.open_agreed.Kinds.ps;
+  result = contracts.open_agreed.Kinds.r;
+  allows = contracts.open_agreed.Reads.Post;
+  Answer = Started;
+  answer = λ κs x. x;
+  Given = Session × ℕ;
+  given = λ κs a. (a .0, a .1 .0);
   Lent = Unit {0};
   lent = λ κs a. tt;
   left = λ κs s. tt;
@@ -101,6 +118,22 @@ copyOut = record {
   result = contracts.copy_out.Kinds.r;
   allows = contracts.copy_out.Reads.Post;
   Answer = Copied;
+  answer = λ κs x. x;
+  Given = Session;
+  given = λ κs a. a .0;
+  Lent = Unit {0};
+  lent = λ κs a. tt;
+  left = λ κs s. tt;
+}
+
+-- drop_group(session: Session) -> Dropped
+abbrev pub dropGroup : Call
+dropGroup = record {
+  lifetimes = 0;
+  parameters = contracts.drop_group.Kinds.ps;
+  result = contracts.drop_group.Kinds.r;
+  allows = contracts.drop_group.Reads.Post;
+  Answer = Dropped;
   answer = λ κs x. x;
   Given = Session;
   given = λ κs a. a .0;

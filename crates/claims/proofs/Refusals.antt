@@ -17,10 +17,11 @@ use Rattle.holding.specs.Group.{nothing, isNothing, holds}
 use Rattle.holding.specs.declared.Holding.{Holding}
 use Rattle.joining.specs.Joining.{sameGroup, agree, either, refusedJoin, joinOf}
 use Rattle.joining.specs.declared.Joined.{Joined}
-use Rattle.session.specs.Session.{fresh, formRight, openedFor, isOpen, refuse, offered, afterPour, noCopy, copied}
+use Rattle.session.specs.Session.{fresh, formRight, openedFor, isOpen, refuse, offered, ended, afterPour, noCopy, copied, notDropped, dropped}
 use Rattle.session.specs.declared.Session.{Session}
 use Rattle.session.specs.declared.Started.{Started}
 use Rattle.session.specs.declared.Copied.{Copied}
+use Rattle.session.specs.declared.Dropped.{Dropped}
 use Rattle.session.specs.declared.Offered.{Offered}
 use Rattle.session.specs.declared.Taken.{Taken}
 use Rattle.session.specs.declared.Taken.the-variants as taken
@@ -29,7 +30,7 @@ use Rattle.capture.specs.Run.{recordAnswer, recordOutput, captureKind, captureR
 use Rattle.capture.specs.declared.Outcome as captured
 use Rattle.capture.specs.declared.Outcome.the-variants as outcome
 use Rattle.lending.specs.Laid.{sessionIn, sessionLaid, sessionVoice}
-use Rattle.lending.specs.Calls.{layIf, layTaken, layWritten, openOctets, offerAnswer, offerOctets, pourOctets, copyOctets, endOctets, joinOctets}
+use Rattle.lending.specs.Calls.{layIf, layTaken, layWritten, openOctets, offerAnswer, offerOctets, pourOctets, copyOctets, dropOctets, endOctets, joinOctets}
 use Rattle.landing.specs.Host.{takenAfter}
 use Rattle.claims.specs.Call.{Outcome}
 use Rattle.claims.specs.Calls.Lent.{LentSessionLost}
@@ -119,6 +120,17 @@ unfolding afterPour
 after-kept shape s (written.Octets n) i = absurd i
 after-kept shape s (written.Refused r) i = refl
 
+drop-kept : (v : Voice) (s : Session) → RefusedAnswer (dropped v s .answer) → dropped v s .session ≡ s
+unfolding dropped notDropped
+drop-kept v s i = go (isOpen v s) (isNothing (v .shape) (s .group)) i
+  where
+    go : (x y : Bool) →
+        let d = cond {A = Dropped} x (cond y (notDropped s) (record { answer = answer.Done; session = ended (v .shape) s })) (notDropped s) in
+        RefusedAnswer (d .answer) → d .session ≡ s
+    go true true i = refl
+    go true false i = absurd i
+    go false y i = refl
+
 copy-kept : (v : Voice) (s : Session) → RefusedAnswer (copied v s .answer) → copied v s .holding ≡ nothing (v .shape)
 unfolding copied noCopy
 copy-kept v s i = go (isOpen v s) (isNothing (v .shape) (s .group)) i
@@ -151,21 +163,25 @@ answer-kept : {X : Type 0} (lent : List ℕ → X) {x y : Answer} {a b : List �
 answer-kept lent {x} {y} {a} {b} w e p i = (ap lent (p ∙ lay-kept y b w (subst RefusedAnswer e i)), tt)
 
 pub rattle-demand-1 : RattleDemand1
-unfolding recordAnswer recordOutput openOctets offerOctets pourOctets copyOctets endOctets joinOctets
+unfolding recordAnswer recordOutput openOctets offerOctets pourOctets copyOctets dropOctets endOctets joinOctets
 rattle-demand-1 = record {
   recordingWrite = record { so = λ p i. (ap out-lent (writes-kept _ _ p i), tt) };
   packetWrite = record { so = λ p i. (ap out-lent (writes-kept _ _ p i), tt) };
+  packetWriteAgreed = record { so = λ p i. (ap out-lent (writes-kept _ _ p i), tt) };
   packetWriteHeaderFree = record { so = λ p i. (ap out-lent (writes-kept _ _ p i), tt) };
   pouringPour = record { so = λ p i. (ap out-lent (writes-kept _ _ p i), tt) };
   captureRecord = record { so = λ p i. (ap out-lent (record-kept (good _) (octets (captureRecording captureKind _)) (p .0) (p .1) i), tt) };
   joiningJoin = record { so = λ p i. (refl, ap (λ (j : Joined). j .holding) p ∙ join-kept _ _ _ (subst (λ (j : Joined). RefusedAnswer (j .answer)) p i)) };
   sessionOpen = record { so = λ p i. (refl, ap (λ (j : Started). j .session) p ∙ open-kept _ _ _ _ (subst (λ (j : Started). RefusedAnswer (j .answer)) p i)) };
+  sessionOpenAgreed = record { so = λ p i. (refl, ap (λ (j : Started). j .session) p ∙ open-kept _ _ _ _ (subst (λ (j : Started). RefusedAnswer (j .answer)) p i)) };
   sessionOffer = record { so = λ p i. (refl, ap (λ (j : Offered). j .session) p ∙ offer-kept _ _ _ _ _ _ (subst (λ (j : Offered). RefusedOffer (j .answer)) p i)) };
   sessionPour = record { so = λ p i. (ap out-lent (writes-kept _ _ (p .0) i), p .1 ∙ after-kept _ _ _ i) };
+  sessionDropGroup = record { so = λ p i. (refl, ap (λ (j : Dropped). j .session) p ∙ drop-kept _ _ (subst (λ (j : Dropped). RefusedAnswer (j .answer)) p i)) };
   sessionCopyOut = record { so = λ p i. (refl, ap (λ (j : Copied). j .holding) p ∙ copy-kept _ _ (subst (λ (j : Copied). RefusedAnswer (j .answer)) p i)) };
   lendingOpen = record { so = λ p i. answer-kept session-lent _ (p .0) (p .1) i };
   lendingOffer = record { so = λ p i. (ap session-lent (p .1 ∙ taken-kept _ _ _ (subst RefusedOffer (p .0) i)), tt) };
   lendingPour = record { so = λ p i. (ap₂ (λ (s o : List ℕ). record { session = s; out = o }) (p .1 ∙ poured-kept _ _ _ i) (writes-kept _ _ (p .0) i), tt) };
+  lendingDropGroup = record { so = λ p i. answer-kept session-lent _ (p .0) (p .1) i };
   lendingCopyOut = record { so = λ p i. answer-kept out-lent _ (p .0) (p .1) i };
   lendingEnd = record { so = λ p i. answer-kept session-lent _ (p .0) (p .1) i };
   lendingJoin = record { so = λ p i. answer-kept out-lent _ (p .0) (p .1) i };

@@ -73,17 +73,21 @@ KeptLent call IsRefused = Kept call IsRefused (λ g x. Unit {0})
 pub record RattleDemand1 : Type 0 where
   pub recordingWrite : KeptLent recording.write RefusedWriting
   pub packetWrite : KeptLent packet.write RefusedWriting
+  pub packetWriteAgreed : KeptLent packet.writeAgreed RefusedWriting
   pub packetWriteHeaderFree : KeptLent packet.writeHeaderFree RefusedWriting
   pub pouringPour : KeptLent pouring.pour RefusedWriting
   pub captureRecord : KeptLent capture.record RefusedCapture
   pub joiningJoin : Kept joining.join (λ x. RefusedAnswer (x .answer)) (λ g x. x .holding ≡ nothing holdingShape)
   pub sessionOpen : Kept session.«open» (λ x. RefusedAnswer (x .answer)) (λ g x. x .session ≡ g .0)
+  pub sessionOpenAgreed : Kept session.openAgreed (λ x. RefusedAnswer (x .answer)) (λ g x. x .session ≡ g .0)
   pub sessionOffer : Kept session.offer (λ x. RefusedOffer (x .answer)) (λ g x. x .session ≡ g .0)
   pub sessionPour : Kept session.pour (λ x. RefusedWriting (x .answer)) (λ g x. x .session ≡ g)
+  pub sessionDropGroup : Kept session.dropGroup (λ x. RefusedAnswer (x .answer)) (λ g x. x .session ≡ g)
   pub sessionCopyOut : Kept session.copyOut (λ x. RefusedAnswer (x .answer)) (λ g x. x .holding ≡ nothing holdingShape)
   pub lendingOpen : KeptLent lending.«open» RefusedAnswer
   pub lendingOffer : KeptLent lending.offer RefusedOffer
   pub lendingPour : KeptLent lending.pour RefusedWriting
+  pub lendingDropGroup : KeptLent lending.dropGroup RefusedAnswer
   pub lendingCopyOut : KeptLent lending.copyOut RefusedAnswer
   pub lendingEnd : KeptLent lending.end RefusedAnswer
   pub lendingJoin : KeptLent lending.join RefusedAnswer

@@ -12,7 +12,7 @@ use Rattle.claims.proofs.Lent.{repeat-changes-no-octet, equal-knowledge
 use Rattle.claims.proofs.LentBack.{holding-reads-back, nothing-poured-nothing-remembered, session-reads-back}
 use Rattle.claims.proofs.Packets.{packet-read-after-write}
 use Rattle.claims.proofs.PacketsBack.{packet-write-after-read, header-free-read-after-write, header-free-write-after-read}
-use Rattle.claims.proofs.PacketsBack.{kinds-pass}
+use Rattle.claims.proofs.PacketsBack.{kinds-pass, sendable-is-written, writer-writes, header-free-writer-writes}
 use Rattle.claims.proofs.Recordings.{recording-read-after-write, recording-write-after-read, recording-same-octets, opening-alone}
 use Rattle.claims.proofs.Buildable.{buildable}
 use Rattle.claims.proofs.Demand3.{demand-3}
@@ -60,6 +60,9 @@ promised = record {
   repeat-changes-no-octet = repeat-changes-no-octet;
   equal-knowledge-equal-octets = equal-knowledge-equal-octets;
   rr-ignored = rr-ignored;
+  writer-writes = writer-writes;
+  header-free-writer-writes = header-free-writer-writes;
+  sendable-is-written = sendable-is-written;
   packet-read-after-write = packet-read-after-write;
   packet-write-after-read = packet-write-after-read;
   header-free-read-after-write = header-free-read-after-write;

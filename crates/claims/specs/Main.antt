@@ -10,7 +10,7 @@ use Rattle.claims.specs.Lent.{ZeroIsNeverOpened, NoSessionTakesNothing, 
 use Rattle.claims.specs.Lent.{ShortIsNone, NothingPouredNothingRemembered, SessionLaysBack, HoldingLaysBack}
 use Rattle.claims.specs.Lent.{EqualIsEqualOctets, RepeatChangesNoOctet, EqualKnowledgeEqualOctets}
 use Rattle.claims.specs.Packets.{PacketReadAfterWrite, PacketWriteAfterRead, KindsPass, HeaderFreeReadAfterWrite}
-use Rattle.claims.specs.Packets.{HeaderFreeWriteAfterRead}
+use Rattle.claims.specs.Packets.{HeaderFreeWriteAfterRead, SendableIsWritten, WriterWrites, HeaderFreeWriterWrites}
 use Rattle.claims.specs.Recordings.{RecordingReadAfterWrite, RecordingWriteAfterRead, RecordingSameOctets, OpeningAlone}
 use Rattle.claims.specs.Demand3.{Demand3, HostDemand3}
 use Rattle.claims.specs.Offering.{FreshIsReady, OffersDeliver}
@@ -60,6 +60,9 @@ pub record Promised : Type 0 where
   pub equal-knowledge-equal-octets : EqualKnowledgeEqualOctets
   -- demand 2: "Writing and then reading gives back the frames; reading and then writing gives back the octets"
   pub rr-ignored : RRIgnored
+  pub writer-writes : WriterWrites
+  pub header-free-writer-writes : HeaderFreeWriterWrites
+  pub sendable-is-written : SendableIsWritten
   pub packet-read-after-write : PacketReadAfterWrite
   pub packet-write-after-read : PacketWriteAfterRead
   pub header-free-read-after-write : HeaderFreeReadAfterWrite

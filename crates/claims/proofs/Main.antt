@@ -14,6 +14,7 @@ use Rattle.claims.proofs.Packets.{packet-read-after-write}
 use Rattle.claims.proofs.PacketsBack.{packet-write-after-read, header-free-read-after-write, header-free-write-after-read}
 use Rattle.claims.proofs.PacketsBack.{kinds-pass, sendable-is-written, writer-writes, header-free-writer-writes}
 use Rattle.claims.proofs.Recordings.{recording-read-after-write, recording-write-after-read, recording-same-octets, opening-alone}
+use Rattle.claims.proofs.Recordings.{recording-refusals-part-empty}
 use Rattle.claims.proofs.Buildable.{buildable}
 use Rattle.claims.proofs.Demand3.{demand-3}
 use Rattle.claims.proofs.HostDemand3.{host-demand-3}
@@ -40,6 +41,7 @@ promised = record {
   rattle-demand-1 = rattle-demand-1;
   refused-offer-changes-nothing = refused-offer-changes-nothing;
   refusals-part-empty = refusals-part-empty;
+  recording-refusals-part-empty = recording-refusals-part-empty;
   another-source = another-source;
   another-source-is-10 = another-source-is-10;
   another-sources-words-are-not-heard = another-sources-words-are-not-heard;

@@ -12,6 +12,7 @@ use Rattle.claims.specs.Lent.{EqualIsEqualOctets, RepeatChangesNoOctet, 
 use Rattle.claims.specs.Packets.{PacketReadAfterWrite, PacketWriteAfterRead, KindsPass, HeaderFreeReadAfterWrite}
 use Rattle.claims.specs.Packets.{HeaderFreeWriteAfterRead, SendableIsWritten, WriterWrites, HeaderFreeWriterWrites}
 use Rattle.claims.specs.Recordings.{RecordingReadAfterWrite, RecordingWriteAfterRead, RecordingSameOctets, OpeningAlone}
+use Rattle.claims.specs.Recordings.{RecordingRefusalsPartEmpty}
 use Rattle.claims.specs.Demand3.{Demand3, HostDemand3}
 use Rattle.claims.specs.Offering.{FreshIsReady, OffersDeliver}
 use Rattle.claims.specs.Sending.{WriterSends, HeaderFreeWriterSends, WriterSendsNoErasure, TablesNeverSendErasures}
@@ -36,6 +37,7 @@ pub record Promised : Type 0 where
   pub rattle-demand-1 : RattleDemand1
   pub refused-offer-changes-nothing : RefusedOfferChangesNothing
   pub refusals-part-empty : RefusalsPartEmpty
+  pub recording-refusals-part-empty : RecordingRefusalsPartEmpty
   -- "A packet from another source is refused before its payload is looked at."
   pub another-source : AnotherSource
   pub another-source-is-10 : AnotherSourceIs10

@@ -8,6 +8,8 @@ use Rattle.claims.proofs.Sessions.{repeat-changes-nothing, lost-frames-
 use Rattle.claims.proofs.Payloads.{refusals-part-empty, rr-ignored}
 use Rattle.claims.proofs.Lent.{zero-is-never-opened, no-session-takes-nothing, no-holding-holds-nothing}
 use Rattle.claims.proofs.Lent.{short-is-none, session-lays-back, holding-lays-back, equal-is-equal-octets}
+use Rattle.claims.proofs.Lent.{lent-is-shaped}
+use Rattle.claims.proofs.LentJoinings.{lent-joinings}
 use Rattle.claims.proofs.Lent.{repeat-changes-no-octet, equal-knowledge-equal-octets}
 use Rattle.claims.proofs.LentBack.{holding-reads-back, nothing-poured-nothing-remembered, session-reads-back}
 use Rattle.claims.proofs.Packets.{packet-read-after-write}
@@ -53,6 +55,7 @@ promised = record {
   short-is-none = short-is-none;
   no-session-takes-nothing = no-session-takes-nothing;
   no-holding-holds-nothing = no-holding-holds-nothing;
+  lent-is-shaped = lent-is-shaped;
   holding-reads-back = holding-reads-back;
   nothing-poured-nothing-remembered = nothing-poured-nothing-remembered;
   session-reads-back = session-reads-back;
@@ -96,6 +99,7 @@ promised = record {
   equal-knowledge = equal-knowledge;
   every-place-in-time = every-place-in-time;
   voices-have-room = voices-have-room;
+  lent-joinings = lent-joinings;
   copied-out = copied-out;
   boxes-join = boxes-join;
   capture-exactly-if = capture-exactly-if;

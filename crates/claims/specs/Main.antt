@@ -8,6 +8,8 @@ use Rattle.claims.specs.Sessions.{EndingForgets, EndedTakesNothing, Firs
 use Rattle.claims.specs.Sessions.{LostFramesByFormula, OctetCountByFormula}
 use Rattle.claims.specs.Lent.{ZeroIsNeverOpened, NoSessionTakesNothing, NoHoldingHoldsNothing, HoldingReadsBack, SessionReadsBack}
 use Rattle.claims.specs.Lent.{ShortIsNone, NothingPouredNothingRemembered, SessionLaysBack, HoldingLaysBack}
+use Rattle.claims.specs.Lent.{LentIsShaped}
+use Rattle.claims.specs.LentJoinings.{LentJoinings}
 use Rattle.claims.specs.Lent.{EqualIsEqualOctets, RepeatChangesNoOctet, EqualKnowledgeEqualOctets}
 use Rattle.claims.specs.Packets.{PacketReadAfterWrite, PacketWriteAfterRead, KindsPass, HeaderFreeReadAfterWrite}
 use Rattle.claims.specs.Packets.{HeaderFreeWriteAfterRead, SendableIsWritten, WriterWrites, HeaderFreeWriterWrites}
@@ -52,6 +54,7 @@ pub record Promised : Type 0 where
   pub short-is-none : ShortIsNone
   pub no-session-takes-nothing : NoSessionTakesNothing
   pub no-holding-holds-nothing : NoHoldingHoldsNothing
+  pub lent-is-shaped : LentIsShaped
   pub holding-reads-back : HoldingReadsBack
   pub nothing-poured-nothing-remembered : NothingPouredNothingRemembered
   pub session-reads-back : SessionReadsBack
@@ -99,6 +102,7 @@ pub record Promised : Type 0 where
   pub equal-knowledge : EqualKnowledge
   pub every-place-in-time : EveryPlaceInTime
   pub voices-have-room : VoicesHaveRoom
+  pub lent-joinings : LentJoinings
   -- "the outcome is what one box would hold had it heard all those packets"
   pub copied-out : CopiedOut
   pub boxes-join : BoxesJoin

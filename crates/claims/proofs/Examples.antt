@@ -1,8 +1,16 @@
 -- The marked examples hold, by computation. Assumes nothing.
-use mathlib.Core.Path.{refl}
-use Rattle.frame.specs.FrameTable.{rowsOf, rowOf, rowWith}
+use Prim.Native.Nat.{ℕ}
+use mathlib.Core.Path.{_≡_, refl, ap, _∙_}
+use mathlib.Core.List.{List}
+use Rattle.frame.specs.Shape.{Voice}
+use Rattle.answers.specs.Answers.{numberOf}
+use Rattle.answers.specs.declared.Refusal.{Refusal}
+use Rattle.answers.specs.declared.Refusal.the-variants.{LaterGroup, ContradictsGroup, EarlierGroup}
+use Rattle.session.specs.declared.Session.{Session}
+use Rattle.session.specs.declared.Offered.{Offered}
+use Rattle.frame.specs.FrameTable.{rowsOf, rowOf, rowWith, Frame}
 use Rattle.frame.specs.Places.{locatedOf, bodyOf, upTo}
-use Rattle.payload.specs.Payload.{toc, bodies, interleaved, oneBody, readAs}
+use Rattle.payload.specs.Payload.{packet, toc, bodies, interleaved, oneBody, readAs}
 use Rattle.payload.specs.Shown.{givenOf, givenAs}
 use Rattle.numbers.specs.Place.{differ, atDistance, withHeld, afterGap, afterPoured, decided}
 use Rattle.octets.specs.Octets.{twoAt, fourAt, over, anySet, sameOctets, allZero, allBelow, region}
@@ -16,14 +24,26 @@ use Rattle.session.specs.Session.{groupBefore, begins, belongs, placedBy, place
 use Rattle.capture.specs.Capture.{endFault, tableFault, countFault, faultOf, good, startAt, lengths, heardAt, packetsIn}
 use Rattle.capture.specs.Run.{captureForm, firstSession, offeredTo, takenOf, offering, pouredOf, pouring, isTwelve, stepOf, runOf}
 use Rattle.capture.specs.Run.{entriesRecorded, captureRecording, andThen}
-use Rattle.claims.specs.Examples.{MarkedExamples, P15, WholeCase}
+use Rattle.claims.specs.Examples.{MarkedExamples, HoldsP15, RefusedBy, NewBase, P15, WholeCase}
+use Rattle.claims.proofs.Offering.{offer-read}
+
+-- a packet whose numbers are refused, offered to such a session
+refused-by :
+    (v : Voice) (s : Session) → HoldsP15 v s →
+    (sequence timestamp : ℕ) (p : List ℕ) (l n d : ℕ) (fs : List Frame) → readAs (v .table) (s .form) p ≡ packet l n d fs →
+    (r : Refusal) → placed (v .shape) s (arrival (v .shape) sequence timestamp l n fs) ≡ refuse s r →
+    RefusedBy (numberOf r) s (offered v s (s .source) sequence timestamp p)
+unfolding refuse
+refused-by v s h q t p l n d fs e r z =
+    let o = offer-read v s (s .source) q t l n d fs p (h .opened) refl e ∙ z in
+    record { refusal = r; answered = ap (λ (y : Offered). y .answer) o; by-number = refl; unchanged = ap (λ (y : Offered). y .session) o }
 
 p15 : P15
-unfolding placed groupBefore decided withHeld atDistance numbersOf placedBy
+unfolding NewBase placed groupBefore decided withHeld atDistance numbersOf placedBy arrival
 p15 = record {
-  later = λ u s a h e. rw (h .some, h .base, e) (simp (h .length-one));
-  inside = λ u s a h e. rw (h .some, h .base, e) (simp (h .length-one));
-  earlier = λ u s a h e. rw (h .some, h .base, e) (simp (h .length-one));
+  later = λ v s h q t p l n d fs e b. refused-by v s h q t p l n d fs e LaterGroup (rw (h .some, h .base, b) (simp (h .length-one)));
+  inside = λ v s h q t p l n d fs e b. refused-by v s h q t p l n d fs e ContradictsGroup (rw (h .some, h .base, b) (simp (h .length-one)));
+  earlier = λ v s h q t p l n d fs e b. refused-by v s h q t p l n d fs e EarlierGroup (rw (h .some, h .base, b) (simp (h .length-one)));
 }
 
 whole-case : WholeCase

@@ -21,6 +21,7 @@ pub mod LentBack
 pub mod Demand3
 pub mod HostDemand3
 pub mod Lent
+pub mod LentJoinings
 pub mod Examples
 pub mod Faults
 pub mod Idle

@@ -8,12 +8,15 @@ use Rattle.claims.proofs.Sessions.{repeat-changes-nothing, lost-frames-
 use Rattle.claims.proofs.Payloads.{refusals-part-empty, rr-ignored}
 use Rattle.claims.proofs.Lent.{zero-is-never-opened, no-session-takes-nothing, no-holding-holds-nothing}
 use Rattle.claims.proofs.Lent.{short-is-none, session-lays-back, holding-lays-back, equal-is-equal-octets}
+use Rattle.claims.proofs.Lent.{lent-is-shaped}
+use Rattle.claims.proofs.LentJoinings.{lent-joinings}
 use Rattle.claims.proofs.Lent.{repeat-changes-no-octet, equal-knowledge-equal-octets}
 use Rattle.claims.proofs.LentBack.{holding-reads-back, nothing-poured-nothing-remembered, session-reads-back}
 use Rattle.claims.proofs.Packets.{packet-read-after-write}
 use Rattle.claims.proofs.PacketsBack.{packet-write-after-read, header-free-read-after-write, header-free-write-after-read}
-use Rattle.claims.proofs.PacketsBack.{kinds-pass}
+use Rattle.claims.proofs.PacketsBack.{kinds-pass, sendable-is-written, writer-writes, header-free-writer-writes}
 use Rattle.claims.proofs.Recordings.{recording-read-after-write, recording-write-after-read, recording-same-octets, opening-alone}
+use Rattle.claims.proofs.Recordings.{recording-refusals-part-empty}
 use Rattle.claims.proofs.Buildable.{buildable}
 use Rattle.claims.proofs.Demand3.{demand-3}
 use Rattle.claims.proofs.HostDemand3.{host-demand-3}
@@ -40,6 +43,7 @@ promised = record {
   rattle-demand-1 = rattle-demand-1;
   refused-offer-changes-nothing = refused-offer-changes-nothing;
   refusals-part-empty = refusals-part-empty;
+  recording-refusals-part-empty = recording-refusals-part-empty;
   another-source = another-source;
   another-source-is-10 = another-source-is-10;
   another-sources-words-are-not-heard = another-sources-words-are-not-heard;
@@ -51,6 +55,7 @@ promised = record {
   short-is-none = short-is-none;
   no-session-takes-nothing = no-session-takes-nothing;
   no-holding-holds-nothing = no-holding-holds-nothing;
+  lent-is-shaped = lent-is-shaped;
   holding-reads-back = holding-reads-back;
   nothing-poured-nothing-remembered = nothing-poured-nothing-remembered;
   session-reads-back = session-reads-back;
@@ -60,6 +65,9 @@ promised = record {
   repeat-changes-no-octet = repeat-changes-no-octet;
   equal-knowledge-equal-octets = equal-knowledge-equal-octets;
   rr-ignored = rr-ignored;
+  writer-writes = writer-writes;
+  header-free-writer-writes = header-free-writer-writes;
+  sendable-is-written = sendable-is-written;
   packet-read-after-write = packet-read-after-write;
   packet-write-after-read = packet-write-after-read;
   header-free-read-after-write = header-free-read-after-write;
@@ -91,6 +99,7 @@ promised = record {
   equal-knowledge = equal-knowledge;
   every-place-in-time = every-place-in-time;
   voices-have-room = voices-have-room;
+  lent-joinings = lent-joinings;
   copied-out = copied-out;
   boxes-join = boxes-join;
   capture-exactly-if = capture-exactly-if;

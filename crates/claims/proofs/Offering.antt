@@ -75,7 +75,7 @@ fresh-is-ready v form e source g = record {
 
 -- ---- a packet is offered
 module _ (v : Voice) (s : Session) (source sequence timestamp l n d : ℕ) (fs : List Frame) (p : List ℕ) where
-  offer-read : isOpen v s ≡ true → s .source ≡ source → readAs (v .table) (s .form) p ≡ packet l n d fs
+  pub offer-read : isOpen v s ≡ true → s .source ≡ source → readAs (v .table) (s .form) p ≡ packet l n d fs
       → offered v s source sequence timestamp p ≡ placed (v .shape) s (arrival (v .shape) sequence timestamp l n fs)
   unfolding offered received judged
   offer-read o e r = simp (o, eq-eqb source (s .source) (sym e), r)

@@ -30,13 +30,13 @@ use Rattle.payload.proofs.Checks.{length-cut}
 use Rattle.entries.specs.Entries.{EntriesRead, frames, allowed, entriesIn, framesIn, entriesOf}
 use Rattle.entries.specs.Entries as entry
 use Rattle.entries.specs.declared.Rule.the-variants as rule
-use Rattle.entries.proofs.Written.{AllOk, entries-written}
+use Rattle.entries.proofs.Written.{entries-written}
 use Rattle.entries.proofs.Clearing.{read-any}
 use Rattle.entries.proofs.EntriesLaws.{entry as inverted}
 use Rattle.packet.specs.Packet.{bodiesOf, follows, tocOf, packed, groupIn}
 use Rattle.packet.specs.Writing.{packetMade, packetOfGroup, headerFreeMade, oneBody}
 use Rattle.packet.proofs.Choosing.{within-group}
-use Rattle.claims.specs.Packets.{PacketWriteAfterRead, AllSendable, EveryD, AreOctets, kindIs, tells}
+use Rattle.claims.specs.Packets.{SendableIsWritten, WriterWrites, HeaderFreeWriterWrites, PacketWriteAfterRead, EveryD, AreOctets, kindIs, tells}
 use Rattle.claims.specs.Packets.{HeaderFreeReadAfterWrite, HeaderFreeWriteAfterRead, KindsPass}
 
 -- ---- the table of contents that is written is the one that was read
@@ -146,20 +146,32 @@ listed-sendable v f e =
     let s = sendable-row v f e in
     record { type-known = found-known v (f .type) (s .r) (s .row); octets = s .long ∙ sym (found-size v (f .type) (s .r) (s .row)) }
 
-all-ok : (v : FrameTable) (fs : List Frame) → AllSendable v fs → AllOk (allowed v rule.Sendable) fs
-unfolding allowed
-all-ok v fs a = every-so _ _ (λ f x. x) fs a
+-- ---- what is written
+pub sendable-is-written : SendableIsWritten
+unfolding SendableIsWritten allowed
+sendable-is-written kind h = record {
+  group = λ fs a. entries-written kind h (allowed (kind .table) rule.Sendable) 0 fs (every-so _ _ (listed-sendable (kind .table)) fs a) (every-so _ _ (λ f x. x) fs a);
+  one = λ f s b. entries-written kind h (allowed (kind .table) rule.HeaderFree) 0 (f ∷ []) (listed-sendable (kind .table) f s, tt) (simp (lt-ltb 0 (length (f .body)) b, s), tt);
+}
+
+pub writer-writes : WriterWrites
+unfolding WriterWrites packetMade packetOfGroup
+writer-writes kind m l n b d a i s h es fs e c =
+    simp (a .in-range, le-leb d 1 h)
+    (within-group kind m l n b d es i (a .long-enough) s (a .wide-enough) ∙ rw (e, eq-eqb (length fs) ((l + 1) * b) c))
+
+pub header-free-writer-writes : HeaderFreeWriterWrites
+unfolding HeaderFreeWriterWrites headerFreeMade oneBody
+header-free-writer-writes kind es f e = rw e
 
 -- ---- write after read
 pub packet-write-after-read : PacketWriteAfterRead
-unfolding PacketWriteAfterRead packetMade packetOfGroup
+unfolding PacketWriteAfterRead WriterWrites SendableIsWritten
 packet-write-after-read kind h m p l n d gs e o z q fs g =
     let x = again (kind .table) m p l n d gs e o z q in
-    let y : entriesIn kind rule.Sendable (entriesOf fs) ≡ frames fs =
-    entries-written kind h (allowed (kind .table) rule.Sendable) 0 fs (every-so _ _ (listed-sendable (kind .table)) fs (g .sendable)) (all-ok (kind .table) fs (g .sendable)) in
-    simp (x .range, le-leb d 1 (x .bit))
-    (within-group kind m l n (length gs) d (entriesOf fs) (x .index) (x .short) (x .some) (x .few)
-    ∙ rw (y, eq-eqb (length fs) ((l + 1) * length gs) (g .many), g .ours) (ap octets (x .same)))
+    writer-writes kind m l n (length gs) d (record { in-range = x .range; long-enough = x .short; wide-enough = x .few }) (x .index) (x .some) (x .bit)
+    (entriesOf fs) fs (sendable-is-written kind h .group fs (g .sendable)) (g .many)
+    ∙ rw (g .ours) (ap octets (x .same))
 
 -- ---- the header-free writer
 free-ok : (v : FrameTable) (f : Frame) → allowed v rule.HeaderFree f ≡ true → (0 < length (f .body)) × (sendable v (f .type) (f .body) ≡ true)
@@ -214,17 +226,15 @@ header-free-read-after-write kind h es w e = go (entriesIn kind rule.HeaderFree 
         rw (row, g) (ap₂ (λ (c : ℕ) (y : List ℕ). packet 0 0 0 (record { type = c; body = y } ∷ [])) (t .kind) (sym b))
 
 pub header-free-write-after-read : HeaderFreeWriteAfterRead
-unfolding HeaderFreeWriteAfterRead headerFreeMade oneBody readAs payload.oneBody allowed
+unfolding HeaderFreeWriteAfterRead HeaderFreeWriterWrites SendableIsWritten readAs payload.oneBody
 header-free-write-after-read kind h p l n d f e s = go (eqb (length p) 0) refl e
   where
     here : (k : Lookup) → 0 < length p → payload.oneBody k p ≡ packet l n d (f ∷ []) → headerFreeMade kind HeaderFree (entriesOf (f ∷ [])) ≡ octets p
     here Missing z x = apart (cc)
     here (Found r) z x =
         let b : p ≡ f .body = cc in
-        let y : entriesIn kind rule.HeaderFree (entriesOf (f ∷ [])) ≡ frames (f ∷ []) =
-        entries-written kind h (allowed (kind .table) rule.HeaderFree) 0 (f ∷ []) (listed-sendable (kind .table) f s, tt)
-        (simp (lt-ltb 0 (length (f .body)) (omega (arith, ap length b)), s), tt) in
-        rw y (ap octets (sym b))
+        let y = sendable-is-written kind h .one f s (omega (arith, ap length b)) in
+        header-free-writer-writes kind (entriesOf (f ∷ [])) f y ∙ ap octets (sym b)
 
     go : (c : Bool) → eqb (length p) 0 ≡ c → payload.oneBody (cond c Missing (rowWith (kind .table) (length p))) p ≡ packet l n d (f ∷ []) →
         headerFreeMade kind HeaderFree (entriesOf (f ∷ [])) ≡ octets p

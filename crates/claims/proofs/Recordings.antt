@@ -1,11 +1,12 @@
 -- What holds of every recording. Assumes nothing.
 use Prim.Native.Nat.{ℕ, zero, suc}
-use mathlib.Core.Path.{_≡_, refl, ap, ap₂, _∙_}
+use mathlib.Core.Path.{_≡_, refl, sym, ap, ap₂, _∙_}
 use mathlib.Core.List.{List, [], _∷_, _++_, append-nil}
 use mathlib.Core.Bool.{true}
 use lib.ListN.{length, drop}
 use lib.Seq.{drop-length}
 use Rattle.frame.specs.FrameTable.{size}
+use Rattle.frame.proofs.PlacesLaws.{refusal-empty}
 use Rattle.answers.specs.Outputs.{octets}
 use Rattle.entries.specs.Kind.{Kind}
 use Rattle.entries.specs.Entries.{entries, cleared}
@@ -13,7 +14,7 @@ use Rattle.recording.specs.Recording.{opensWith, recordingRead}
 use Rattle.recording.proofs.Opening.{begins-self}
 use Rattle.recording.proofs.RoundTrip as trips
 use Rattle.claims.specs.Recordings.{RecordingReadAfterWrite, RecordingWriteAfterRead, PlainEntries, RecordingSameOctets}
-use Rattle.claims.specs.Recordings.{OpeningAlone}
+use Rattle.claims.specs.Recordings.{OpeningAlone, RecordingRefusalsPartEmpty}
 
 pub recording-read-after-write : RecordingReadAfterWrite
 unfolding RecordingReadAfterWrite
@@ -40,3 +41,7 @@ unfolding OpeningAlone recordingRead entries
 opening-alone kind =
     let x : opensWith kind (kind .opening) ≡ true = rw (append-nil (kind .opening)) at (begins-self kind []) in
     rw (x, drop-length (kind .opening))
+
+pub recording-refusals-part-empty : RecordingRefusalsPartEmpty
+unfolding RecordingRefusalsPartEmpty
+recording-refusals-part-empty kind p k r e = refusal-empty _ k r (sym e)

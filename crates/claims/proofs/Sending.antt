@@ -31,9 +31,9 @@ use Rattle.entries.proofs.Clearing.{read-any}
 use Rattle.packet.specs.Packet.{packetFrames, groupIn}
 use Rattle.packet.specs.Writing.{headerFreeMade, oneBody, packetMade}
 use Rattle.packet.proofs.Packing.{length-packet}
-use Rattle.claims.specs.Packets.{narrow, tells, HeaderFreeReadAfterWrite}
+use Rattle.claims.specs.Packets.{narrow, tells, Admits, HeaderFreeReadAfterWrite}
 use Rattle.claims.specs.Offering.{SentGroup, Sent}
-use Rattle.claims.specs.Sending.{Admits, AdmitsIn, WriterSends, HeaderFreeWriterSends, sentOf, neverSent, WriterSendsNoErasure}
+use Rattle.claims.specs.Sending.{AdmitsIn, WriterSends, HeaderFreeWriterSends, sentOf, neverSent, WriterSendsNoErasure}
 use Rattle.claims.specs.Sending.{TablesNeverSendErasures}
 use Rattle.claims.specs.Missing.{isErasure}
 use Rattle.claims.proofs.Packets.{made-of, packed-back}

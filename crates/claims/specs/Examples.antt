@@ -4,7 +4,8 @@ use mathlib.Core.Path.{_≡_}
 use mathlib.Core.Bool.{true, false}
 use mathlib.Core.List.{List, [], _∷_, _++_, map}
 use lib.ListN.{length, replicate}
-use Rattle.frame.specs.Shape.{Shape}
+use Rattle.frame.specs.FrameTable.{Frame}
+use Rattle.frame.specs.Shape.{Voice}
 use Rattle.form.specs.Agreed.{tableOf}
 use Rattle.form.specs.Agreed.{defaultForm}
 use Rattle.answers.specs.Answers.{numberOf}
@@ -13,10 +14,11 @@ use Rattle.form.specs.declared.Form.{Form}
 use Rattle.form.specs.declared.Form.the-variants.{HeaderFree, Interleaved}
 use Rattle.frame.specs.declared.Located.{Located}
 use Rattle.frame.specs.declared.Located.the-variants.{At}
-use Rattle.answers.specs.declared.Refusal.the-variants.{LaterGroup, ContradictsGroup, EarlierGroup}
-use Rattle.session.specs.Session.{placed, refuse}
+use Rattle.answers.specs.declared.Refusal.{Refusal}
+use Rattle.session.specs.Session.{isOpen, offered}
 use Rattle.session.specs.declared.Session.{Session}
-use Rattle.session.specs.declared.Arrival.{Arrival}
+use Rattle.session.specs.declared.Offered.{Offered}
+use Rattle.session.specs.declared.Taken.the-variants.{Refused}
 use Rattle.holding.specs.Group.{isNothing}
 use Rattle.numbers.specs.Bases.{baseSequence, baseTimestamp}
 use Rattle.capture.specs.Capture.{good}
@@ -84,20 +86,32 @@ rows =
     record { form = HeaderFree; octets = replicate 5 0x55; says = number 9 } ∷
     []
 
--- a session that holds a group of base FFFF and L 1
-pub record HoldsP15 (shape : Shape) (s : Session) : Type 0 where
-  pub some : isNothing shape (s .group) ≡ false
+-- an open session that holds a group of base FFFF and L 1
+pub record HoldsP15 (v : Voice) (s : Session) : Type 0 where
+  pub opened : isOpen v s ≡ true
+  pub some : isNothing (v .shape) (s .group) ≡ false
   pub base : s .group .sequence ≡ 0xFFFF
   pub length-one : s .group .l ≡ 1
 
+-- an offer that is refused by this number, and leaves the session as it was
+pub record RefusedBy (told : ℕ) (s : Session) (o : Offered) : Type 0 where
+  pub refusal : Refusal
+  pub answered : o .answer ≡ Refused refusal
+  pub by-number : numberOf refusal ≡ told
+  pub unchanged : o .session ≡ s
+
+-- such a session refuses every packet of its own source with this new base by this number, whatever else the packet is read as
+unfoldable pub NewBase : ℕ → ℕ → Type 0
+NewBase base told =
+    (v : Voice) (s : Session) → HoldsP15 v s →
+    (sequence timestamp : ℕ) (p : List ℕ) (l n d : ℕ) (fs : List Frame) → readAs (v .table) (s .form) p ≡ packet l n d fs →
+    baseSequence sequence n ≡ base → RefusedBy told s (offered v s (s .source) sequence timestamp p)
+
 -- (P15) "held base FFFF, L 1: new base 0001 is 12, 0000 is 11, FFFE is 13", of any session that holds such a group
 pub record P15 : Type 0 where
-  pub later : (shape : Shape) (s : Session) (a : Arrival) → HoldsP15 shape s → a .numbers .sequence ≡ 0x0001 →
-      placed shape s a ≡ refuse s LaterGroup
-  pub inside : (shape : Shape) (s : Session) (a : Arrival) → HoldsP15 shape s → a .numbers .sequence ≡ 0x0000 →
-      placed shape s a ≡ refuse s ContradictsGroup
-  pub earlier : (shape : Shape) (s : Session) (a : Arrival) → HoldsP15 shape s → a .numbers .sequence ≡ 0xFFFE →
-      placed shape s a ≡ refuse s EarlierGroup
+  pub later : NewBase 0x0001 12
+  pub inside : NewBase 0x0000 11
+  pub earlier : NewBase 0xFFFE 13
 
 -- the whole case: two packets of one group
 abbrev pub wholeCase : List ℕ

@@ -46,6 +46,11 @@ NoHoldingHoldsNothing =
     (v : Voice) (o : List ℕ) → isHolding o ≡ false →
     (holdingIn o ≡ nothing holdingShape) × (poured v (holdingIn o) ≡ refusedOutput NotApplicable)
 
+-- what lent octets are read as is as long as its type makes it
+pub record LentIsShaped : Type 0 where
+  pub holdings : (o : List ℕ) → Shaped holdingShape (holdingIn o)
+  pub sessions : (o : List ℕ) → Shaped holdingShape (sessionIn o .group)
+
 -- what a call laid out reads back the same, whatever the buffer held; a holding is as long as its type makes it, and types are octets
 unfoldable pub HoldingReadsBack : Type 0
 HoldingReadsBack = (h : Holding) → Shaped holdingShape h → AreOctets (h .marks) → (o : List ℕ) → holdingIn (over o 0 (holdingLaid h)) ≡ h

@@ -16,6 +16,7 @@ pub mod Boxes
 pub mod TwoBoxes
 pub mod Captures
 pub mod Lent
+pub mod LentJoinings
 pub mod Examples
 pub mod Faults
 pub mod Idle

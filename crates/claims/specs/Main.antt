@@ -8,10 +8,13 @@ use Rattle.claims.specs.Sessions.{EndingForgets, EndedTakesNothing, Firs
 use Rattle.claims.specs.Sessions.{LostFramesByFormula, OctetCountByFormula}
 use Rattle.claims.specs.Lent.{ZeroIsNeverOpened, NoSessionTakesNothing, NoHoldingHoldsNothing, HoldingReadsBack, SessionReadsBack}
 use Rattle.claims.specs.Lent.{ShortIsNone, NothingPouredNothingRemembered, SessionLaysBack, HoldingLaysBack}
+use Rattle.claims.specs.Lent.{LentIsShaped}
+use Rattle.claims.specs.LentJoinings.{LentJoinings}
 use Rattle.claims.specs.Lent.{EqualIsEqualOctets, RepeatChangesNoOctet, EqualKnowledgeEqualOctets}
 use Rattle.claims.specs.Packets.{PacketReadAfterWrite, PacketWriteAfterRead, KindsPass, HeaderFreeReadAfterWrite}
-use Rattle.claims.specs.Packets.{HeaderFreeWriteAfterRead}
+use Rattle.claims.specs.Packets.{HeaderFreeWriteAfterRead, SendableIsWritten, WriterWrites, HeaderFreeWriterWrites}
 use Rattle.claims.specs.Recordings.{RecordingReadAfterWrite, RecordingWriteAfterRead, RecordingSameOctets, OpeningAlone}
+use Rattle.claims.specs.Recordings.{RecordingRefusalsPartEmpty}
 use Rattle.claims.specs.Demand3.{Demand3, HostDemand3}
 use Rattle.claims.specs.Offering.{FreshIsReady, OffersDeliver}
 use Rattle.claims.specs.Sending.{WriterSends, HeaderFreeWriterSends, WriterSendsNoErasure, TablesNeverSendErasures}
@@ -36,6 +39,7 @@ pub record Promised : Type 0 where
   pub rattle-demand-1 : RattleDemand1
   pub refused-offer-changes-nothing : RefusedOfferChangesNothing
   pub refusals-part-empty : RefusalsPartEmpty
+  pub recording-refusals-part-empty : RecordingRefusalsPartEmpty
   -- "A packet from another source is refused before its payload is looked at."
   pub another-source : AnotherSource
   pub another-source-is-10 : AnotherSourceIs10
@@ -50,6 +54,7 @@ pub record Promised : Type 0 where
   pub short-is-none : ShortIsNone
   pub no-session-takes-nothing : NoSessionTakesNothing
   pub no-holding-holds-nothing : NoHoldingHoldsNothing
+  pub lent-is-shaped : LentIsShaped
   pub holding-reads-back : HoldingReadsBack
   pub nothing-poured-nothing-remembered : NothingPouredNothingRemembered
   pub session-reads-back : SessionReadsBack
@@ -60,6 +65,9 @@ pub record Promised : Type 0 where
   pub equal-knowledge-equal-octets : EqualKnowledgeEqualOctets
   -- demand 2: "Writing and then reading gives back the frames; reading and then writing gives back the octets"
   pub rr-ignored : RRIgnored
+  pub writer-writes : WriterWrites
+  pub header-free-writer-writes : HeaderFreeWriterWrites
+  pub sendable-is-written : SendableIsWritten
   pub packet-read-after-write : PacketReadAfterWrite
   pub packet-write-after-read : PacketWriteAfterRead
   pub header-free-read-after-write : HeaderFreeReadAfterWrite
@@ -94,6 +102,7 @@ pub record Promised : Type 0 where
   pub equal-knowledge : EqualKnowledge
   pub every-place-in-time : EveryPlaceInTime
   pub voices-have-room : VoicesHaveRoom
+  pub lent-joinings : LentJoinings
   -- "the outcome is what one box would hold had it heard all those packets"
   pub copied-out : CopiedOut
   pub boxes-join : BoxesJoin

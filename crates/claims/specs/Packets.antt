@@ -1,6 +1,6 @@
 -- Demand 2 (document 01, "Writing packets"): writing and then reading gives back the frames, reading and then writing the octets.
 -- Of entries of any kind; where a claim asks something of the kind, it is a test that is computed, and that of every vocoder passes it.
-use Prim.Native.Nat.{ℕ, zero, suc, _+_, _*_, _<_}
+use Prim.Native.Nat.{ℕ, zero, suc, _+_, _*_, _≤_, _<_}
 use mathlib.Core.Path.{_≡_}
 use mathlib.Core.List.{List, [], _∷_}
 use mathlib.Core.Bool.{Bool, true, false, cond, _&&_}
@@ -10,19 +10,41 @@ use Rattle.frame.specs.declared.Vocoder.{Vocoder}
 use Rattle.frame.specs.FrameTable.{FrameTable, Frame, rowWith, sendable, single, Every}
 use Rattle.frame.specs.Entry.{dOf}
 use Rattle.answers.specs.Outputs.{octets}
+use Rattle.form.specs.Agreed.{inRange}
 use Rattle.form.specs.declared.Limits.{Limits}
 use Rattle.frame.specs.declared.Lookup.{Lookup}
 use Rattle.frame.specs.declared.Lookup.the-variants.{Found, Missing}
 use Rattle.form.specs.declared.Form.the-variants.{HeaderFree, Interleaved}
 use Rattle.payload.specs.Payload.{packet, readAs}
 use Rattle.entries.specs.Kind.{Kind, kindOf, everyType, keepsTypes, listsErasure}
-use Rattle.entries.specs.Entries.{entriesOf}
-use Rattle.packet.specs.Packet.{packetFrames, groupIn}
+use Rattle.entries.specs.Entries.{frames, entriesIn, entriesOf}
+use Rattle.entries.specs.declared.Rule.the-variants.{Sendable}
+use Rattle.entries.specs.declared.Rule.the-variants as rule
+use Rattle.packet.specs.Packet.{packetFrames, packed, groupIn}
 use Rattle.packet.specs.Writing.{packetMade, headerFreeMade}
 
 -- every type of the table fits the six bits of an entry
 abbrev pub narrow : FrameTable → Bool
 narrow v = everyType (λ t. ltb t 64) v
+
+-- "limits that admit it"
+pub record Admits (m : Limits) (l b : ℕ) : Type 0 where
+  pub in-range : inRange m ≡ true
+  pub long-enough : l ≤ m .«max_l»
+  pub wide-enough : b ≤ m .«max_b»
+
+-- "Output: packet N": where no check refuses, numbers in range and (L + 1) x B sendable frames, the writer writes these very octets
+unfoldable pub WriterWrites : Type 0
+WriterWrites =
+    (kind : Kind) (m : Limits) (l n b d : ℕ) → Admits m l b → n ≤ l → 1 ≤ b → d ≤ 1 →
+    (es : List ℕ) (fs : List Frame) → entriesIn kind Sendable es ≡ frames fs → length fs ≡ (l + 1) * b →
+    packetMade kind (Interleaved m) l n b d es ≡ octets (packed l n d (packetFrames l n b fs))
+
+-- and the header-free writer writes the body of one frame that may be sent so
+unfoldable pub HeaderFreeWriterWrites : Type 0
+HeaderFreeWriterWrites =
+    (kind : Kind) (es : List ℕ) (f : Frame) → entriesIn kind rule.HeaderFree es ≡ frames (f ∷ []) →
+    headerFreeMade kind HeaderFree es ≡ octets (f .body)
 
 -- "Read after write, under the same agreed form, gives the frames, L, N and D back."
 unfoldable pub PacketReadAfterWrite : Type 0
@@ -34,6 +56,16 @@ PacketReadAfterWrite =
 -- "every frame is sendable"
 abbrev pub AllSendable : FrameTable → List Frame → Type 0
 AllSendable v fs = Every (λ f. sendable v (f .type) (f .body) ≡ true) fs
+
+-- the entries of sendable frames pass the writer's walk, and so does that of one with a body in the header-free writer
+pub record SendableAreWalked (kind : Kind) : Type 0 where
+  pub group : (fs : List Frame) → AllSendable (kind .table) fs → entriesIn kind Sendable (entriesOf fs) ≡ frames fs
+  pub one : (f : Frame) → sendable (kind .table) (f .type) (f .body) ≡ true → 0 < length (f .body) →
+      entriesIn kind rule.HeaderFree (entriesOf (f ∷ [])) ≡ frames (f ∷ [])
+
+-- of every kind whose entries keep types
+unfoldable pub SendableIsWritten : Type 0
+SendableIsWritten = (kind : Kind) → T (keepsTypes kind) → SendableAreWalked kind
 
 -- a group's frames, all sendable, in which packet N has these: "the other packets of the group may be any sendable frames"
 pub record GroupOf (v : FrameTable) (l n : ℕ) (gs fs : List Frame) : Type 0 where

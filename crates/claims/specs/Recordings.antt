@@ -10,6 +10,10 @@ use Rattle.answers.specs.Outputs.{octets}
 use Rattle.entries.specs.Kind.{Kind, keepsTypes}
 use Rattle.entries.specs.Entries.{frames, entriesIn, entriesOf, cleared}
 use Rattle.recording.specs.Recording.{recordingRead, recordingMade}
+use Rattle.recording.specs.Shown.{givenIn}
+use Rattle.frame.specs.Places.{locatedOf, bodyOf}
+use Rattle.frame.specs.declared.Located.the-variants as located
+use Rattle.answers.specs.declared.Refusal.{Refusal}
 use Rattle.entries.specs.declared.Rule.the-variants.{Any}
 
 -- read after write: what is written of entries is read as their frames
@@ -39,3 +43,9 @@ RecordingSameOctets =
 -- "Opening octets alone are a recording of no frames."
 unfoldable pub OpeningAlone : Type 0
 OpeningAlone = (kind : Kind) → recordingRead kind (kind .opening) ≡ frames []
+
+-- frames are "given as a payload reader gives them": "A refusal's part is empty."
+unfoldable pub RecordingRefusalsPartEmpty : Type 0
+RecordingRefusalsPartEmpty =
+    (kind : Kind) (p : List ℕ) (k : ℕ) (r : Refusal) →
+    locatedOf (givenIn kind p) k ≡ located.Refused r → bodyOf (givenIn kind p) k ≡ []

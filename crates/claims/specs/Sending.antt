@@ -2,7 +2,7 @@
 use Prim.Native.Nat.{ℕ, _≤_, _<_}
 use mathlib.Core.Path.{_≡_}
 use mathlib.Core.List.{List}
-use mathlib.Core.Bool.{Bool, true, false, not}
+use mathlib.Core.Bool.{Bool, false, not}
 use lib.Dec.{T}
 use lib.ListN.{length}
 use Rattle.frame.specs.declared.Vocoder.{Vocoder}
@@ -14,21 +14,14 @@ use Rattle.entries.specs.Kind.{Kind}
 use Rattle.numbers.specs.declared.GroupNumbers.{GroupNumbers}
 use Rattle.packet.specs.Packet.{groupIn}
 use Rattle.packet.specs.Writing.{packetMade, headerFreeMade}
-use Rattle.form.specs.Agreed.{inRange}
 use Rattle.form.specs.declared.Limits.{Limits}
 use Rattle.frame.specs.declared.Lookup.{Lookup}
 use Rattle.frame.specs.declared.Lookup.the-variants.{Found, Missing}
 use Rattle.form.specs.declared.Form.the-variants.{HeaderFree, Interleaved}
 use Rattle.answers.specs.Outputs.{octets}
-use Rattle.claims.specs.Packets.{narrow, tells}
+use Rattle.claims.specs.Packets.{narrow, tells, Admits}
 use Rattle.claims.specs.Offering.{SentGroup, Sent, sentNumbers}
 use Rattle.claims.specs.Missing.{isErasure}
-
--- "limits that admit it"
-pub record Admits (m : Limits) (l b : ℕ) : Type 0 where
-  pub in-range : inRange m ≡ true
-  pub long-enough : l ≤ m .«max_l»
-  pub wide-enough : b ≤ m .«max_b»
 
 -- "of the form it was written in, under limits that admit it": a group of l and b that `packet::write` wrote
 unfoldable pub AdmitsIn : ℕ → ℕ → Form → Type 0

@@ -7,11 +7,12 @@
  *     end NAME                                 the talk is over
  *
  * Standard output gets the talk's recording; with -x, a line of hexadecimal for each talk. With `ice` or `office`
- * for an argument, that box is recorded alone. Standard error gets a line for each packet that is refused.
+ * for an argument, that box is recorded alone. Standard error gets a line for each packet or group that is refused.
  *
  * A talk is recorded group by group. Each box offers its packets to its own session, up to the first one of a later
- * group; then what the two hold is joined and poured. So it does not matter how far one box is behind the other. A
- * recorder that listens has a queue where this program has a list, and otherwise does the same. */
+ * group; then what the two hold is copied out, joined and poured, and dropped from their sessions. So it does not
+ * matter how far one box is behind the other. A recorder that listens has a queue where this program has a list, and
+ * otherwise does the same. */
 #include "hex.h"
 #include "landing_voice.h"
 
@@ -40,8 +41,8 @@ struct packet {
 struct box {
     struct packet packets[PACKETS];
     size_t count;
-    size_t next;                /* the packet to be offered next */
-    const struct packet *first; /* the packet that began the group held; NULL if none is held */
+    size_t next; /* the packet to be offered next */
+    int holds;   /* whether it holds a group */
     uint8_t session[LV_SESSION_OCTETS];
     uint8_t held[LV_HOLDING_OCTETS]; /* the group held, copied out */
 };
@@ -50,12 +51,19 @@ enum { ICE, OFFICE, BOXES };
 
 struct talk {
     struct box boxes[BOXES];
-    const struct packet *heard_first;    /* the first packet of the talk: its source is the skipper's */
-    uint8_t recorded[LV_SESSION_OCTETS]; /* a session that remembers the last group recorded, and counts what is lost */
+    const struct packet *heard_first; /* the first packet of the talk: its source is the skipper's */
     uint8_t joined[LV_HOLDING_OCTETS];
+    uint8_t last[LV_HOLDING_OCTETS]; /* the last group recorded; before the first all zero, which holds no packet */
     uint8_t group[LV_POURED_MAX];
     uint8_t entries[ENTRIES];
     size_t len;
+};
+
+/* What a holding is, as the library tells it. */
+struct group {
+    uint32_t source, timestamp;
+    uint16_t sequence;
+    uint8_t l, b, held;
 };
 
 static struct talk talk;
@@ -82,18 +90,38 @@ static void must(const char *what, uint8_t answer)
     exit(1);
 }
 
-/* Tells that a box's packet is refused. */
-static void tell(const struct box *box, const struct packet *packet, uint8_t answer)
+/* Tells that a box's packet, or the group that begins at this sequence number, is refused. */
+static void tell(const struct box *box, uint32_t source, uint16_t sequence, uint8_t answer)
 {
     fprintf(stderr, "%s: source %08lX sequence %u: refused %u, %s\n", box_names[box - talk.boxes],
-            (unsigned long)packet->source, (unsigned)packet->sequence, (unsigned)answer, lv_answer_text(answer));
+            (unsigned long)source, (unsigned)sequence, (unsigned)answer, lv_answer_text(answer));
 }
 
-/* Offers a packet to a session. */
-static uint8_t offer(uint8_t *session, const struct packet *packet, size_t *lost)
+/* What the group held by a box is. */
+static struct group group_of(const struct box *box)
 {
-    return lv_session_offer(session, LV_SESSION_OCTETS, packet->source, packet->sequence, packet->timestamp,
-                            packet->payload, packet->len, lost);
+    struct group group;
+
+    must("reading a group", lv_holding_read(box->held, sizeof box->held, &group.source, &group.sequence,
+                                            &group.timestamp, &group.l, &group.b, &group.held));
+    return group;
+}
+
+/* Opens a box's session for the skipper: it remembers no group. */
+static void begin(struct box *box)
+{
+    must("opening a session", lv_session_open(talk.heard_first->source, LV_INTERLEAVED, LV_DEFAULT_MAX_L,
+                                              LV_DEFAULT_MAX_B, box->session, sizeof box->session));
+}
+
+/* Copies out the group that a box holds, if it holds one. */
+static void copy_out(struct box *box)
+{
+    uint8_t answer = lv_session_copy(box->session, sizeof box->session, box->held, sizeof box->held);
+
+    box->holds = answer == LV_OK;
+    if (answer != LV_NOT_APPLICABLE)
+        must("copying a group", answer);
 }
 
 /* Offers a box's packets in turn, up to one that has to wait until more is recorded: one of a later group, or one
@@ -104,15 +132,15 @@ static void hear(struct box *box)
     for (; box->next < box->count; box->next++) {
         const struct packet *packet = &box->packets[box->next];
         size_t lost; /* not looked at: record_group says why */
-        uint8_t answer = offer(box->session, packet, &lost);
+        uint8_t answer = lv_session_offer(box->session, sizeof box->session, packet->source, packet->sequence,
+                                          packet->timestamp, packet->payload, packet->len, &lost);
 
         if (answer == LV_LATER_GROUP || answer == LV_TOO_FAR_AHEAD)
-            return;
+            break;
         if (answer != LV_OK)
-            tell(box, packet, answer);
-        else if (box->first == NULL)
-            box->first = packet;
+            tell(box, packet->source, packet->sequence, answer);
     }
+    copy_out(box);
 }
 
 /* Where nothing is held, nothing more will be recorded before the packets that wait: skips one of each box. Says
@@ -124,7 +152,8 @@ static int skip_waiting(void)
 
     for (box = talk.boxes; box < talk.boxes + BOXES; box++)
         if (box->next < box->count) {
-            tell(box, &box->packets[box->next++], LV_TOO_FAR_AHEAD);
+            const struct packet *packet = &box->packets[box->next++];
+            tell(box, packet->source, packet->sequence, LV_TOO_FAR_AHEAD);
             skipped = 1;
         }
     return skipped;
@@ -141,82 +170,78 @@ static uint8_t *more_entries(size_t count)
     return end;
 }
 
-/* Adds a group to the recording, behind the frames that were lost before it. Its first packet tells how many: it is
- * offered to the recording's own session, which has heard one packet of each group recorded. A box's own count
- * would also count the groups that only the other box heard. */
-static void record_group(const struct box *box, const uint8_t *holding)
+/* Adds a group to the recording, behind the frames that were lost since the last group recorded; the talk's first has
+ * none before it (21). Refuses one that is not later than the last, or too far ahead of it. A box's own count of lost
+ * frames would also count the groups that only the other box heard. */
+static uint8_t record_group(const uint8_t *holding)
 {
-    size_t lost, written;
-    uint8_t answer = offer(talk.recorded, box->first, &lost);
+    size_t lost = 0, written;
+    uint8_t answer = lv_holding_lost(talk.last, sizeof talk.last, holding, LV_HOLDING_OCTETS, &lost);
 
-    if (answer != LV_OK) {
-        tell(box, box->first, answer);
-        return;
-    }
-    /* Pouring ends the group and remembers it. What it pours is overwritten: only the one packet is in it. */
-    must("pouring a packet", lv_session_pour(talk.recorded, LV_SESSION_OCTETS, talk.group, LV_POURED_MAX, &written));
+    if (answer != LV_OK && answer != LV_NOT_APPLICABLE)
+        return answer;
     must("pouring a group", lv_holding_pour(holding, LV_HOLDING_OCTETS, talk.group, LV_POURED_MAX, &written));
     memset(more_entries(lost), LV_ERASURE, lost);
     memcpy(more_entries(written), talk.group, written);
+    memcpy(talk.last, holding, LV_HOLDING_OCTETS);
+    return LV_OK;
 }
 
-/* A box whose group is recorded, or that held none, goes on from the last group recorded, also if only the other
- * box heard it. Sessions may be copied whole. */
-static void go_on(struct box *box)
+/* Ends a box's group. One that is recorded is dropped: the session remembers it, and if the other box holds none, so
+ * does that one's, as if it had heard it too. Sessions may be copied whole. One that is refused is told, and is not to
+ * be remembered: its box begins anew. */
+static void end_group(struct box *box, struct box *other, uint8_t answer)
 {
-    memcpy(box->session, talk.recorded, LV_SESSION_OCTETS);
-    box->first = NULL;
+    box->holds = 0;
+    if (answer != LV_OK) {
+        struct group group = group_of(box);
+        tell(box, group.source, group.sequence, answer);
+        begin(box);
+        return;
+    }
+    must("dropping a group", lv_session_drop(box->session, sizeof box->session));
+    if (!other->holds)
+        memcpy(other->session, box->session, sizeof other->session);
 }
 
-/* Which of two boxes that hold different groups is at the earlier one; NULL if the groups contradict each other.
- * The library knows: a packet of the office's group is offered to the ice house's session. It is refused, and that
- * changes nothing. */
-static struct box *earlier(struct box *ice, struct box *office)
+/* Whether a box's group is later than another one's: 13 says that it is not, and 16 that it is, by far. */
+static int is_later(const struct box *box, const struct box *other)
 {
     size_t lost;
-    uint8_t answer = offer(ice->session, office->first, &lost);
 
-    return answer == LV_LATER_GROUP ? ice : answer == LV_EARLIER_GROUP ? office : NULL;
+    return lv_holding_lost(other->held, sizeof other->held, box->held, sizeof box->held, &lost) != LV_EARLIER_GROUP;
 }
 
-/* Joins what both boxes hold. Gives the box that is recorded by itself instead, where they are at different groups
- * or contradict each other; NULL where they are joined. */
+/* Joins what both boxes hold. Gives the box that is recorded by itself first, where one is at a later group than the
+ * other; NULL where they are joined, or differ: then the ice house's word is taken. */
 static struct box *join(struct box *ice, struct box *office)
 {
     uint8_t answer = lv_holding_join(ice->held, sizeof ice->held, office->held, sizeof office->held, talk.joined,
                                      sizeof talk.joined);
-    struct box *alone = answer == LV_NOT_SAME_GROUP ? earlier(ice, office) : NULL;
 
-    if (answer == LV_OK || alone != NULL)
-        return alone;
-    /* Somebody has to look at it. The ice house's word is taken. */
-    fprintf(stderr, "ice and office differ at sequence %u\n", (unsigned)office->first->sequence);
-    office->first = NULL;
-    return ice;
+    if (answer == LV_NOT_SAME_GROUP && is_later(office, ice))
+        return ice;
+    if (answer == LV_NOT_SAME_GROUP && is_later(ice, office))
+        return office;
+    if (answer != LV_OK) {
+        /* Somebody has to look at it: a packet has other frames (14), or the groups contradict each other. */
+        fprintf(stderr, "ice and office differ at sequence %u\n", (unsigned)group_of(office).sequence);
+        memcpy(talk.joined, ice->held, sizeof talk.joined);
+    }
+    return NULL;
 }
 
-/* Records the earliest group held: joined, if both boxes hold it. At least one box holds a group. */
+/* Records the earliest group held: joined, if both boxes hold it. At least one box holds a group. The ice house's is
+ * ended last: where the two differ, both go on from its group. */
 static void close_group(struct box *ice, struct box *office)
 {
-    struct box *alone = ice->first == NULL ? office : ice;
-    struct box *box;
+    struct box *alone = ice->holds && office->holds ? join(ice, office) : ice->holds ? ice : office;
+    uint8_t answer = record_group(alone == NULL ? talk.joined : alone->held);
 
-    for (box = talk.boxes; box < talk.boxes + BOXES; box++)
-        if (box->first != NULL)
-            must("copying a group", lv_session_copy(box->session, LV_SESSION_OCTETS, box->held, sizeof box->held));
-    if (ice->first != NULL && office->first != NULL)
-        alone = join(ice, office);
-    if (alone == NULL) {
-        record_group(ice, talk.joined);
-        ice->first = office->first = NULL;
-    } else {
-        record_group(alone, alone->held);
-        alone->first = NULL;
-    }
-    if (ice->first == NULL)
-        go_on(ice);
-    if (office->first == NULL)
-        go_on(office);
+    if (alone != ice)
+        end_group(office, ice, answer);
+    if (alone != office)
+        end_group(ice, office, answer);
 }
 
 /* Records a talk: all groups of the first packet's source. */
@@ -224,14 +249,12 @@ static void record_talk(struct box *ice, struct box *office)
 {
     if (talk.heard_first == NULL)
         return;
-    must("opening a session", lv_session_open(talk.heard_first->source, LV_INTERLEAVED, LV_DEFAULT_MAX_L,
-                                              LV_DEFAULT_MAX_B, talk.recorded, sizeof talk.recorded));
-    go_on(ice);
-    go_on(office);
+    begin(ice);
+    begin(office);
     for (;;) {
         hear(ice);
         hear(office);
-        if (ice->first != NULL || office->first != NULL)
+        if (ice->holds || office->holds)
             close_group(ice, office);
         else if (!skip_waiting())
             return;
@@ -255,7 +278,6 @@ static void end_talk(void)
 {
     must("ending a session", lv_session_end(talk.boxes[ICE].session, LV_SESSION_OCTETS));
     must("ending a session", lv_session_end(talk.boxes[OFFICE].session, LV_SESSION_OCTETS));
-    must("ending a session", lv_session_end(talk.recorded, LV_SESSION_OCTETS));
     memset(&talk, 0, sizeof talk);
     memset(recording, 0, sizeof recording);
 }

@@ -24,8 +24,8 @@
 #include <stdint.h>
 
 /* The version in words; and as a number to be compared, 10000 x major + 100 x minor + patch. */
-#define LV_VERSION "2.0.0"
-#define LV_VERSION_NUMBER 20000
+#define LV_VERSION "2.1.0"
+#define LV_VERSION_NUMBER 20100
 
 #ifdef __cplusplus
 extern "C" {
@@ -43,10 +43,10 @@ enum lv_answer {
     LV_BODIES_CUT = 7,          /* the bodies need more octets than are there */
     LV_OCTETS_LEFT = 8,         /* octets are left after the last body */
     LV_HEADER_FREE_LENGTH = 9,  /* a header-free payload's length is not 2, 10 or 22 */
-    LV_ANOTHER_SOURCE = 10,     /* the packet is another source's */
+    LV_ANOTHER_SOURCE = 10,     /* the packet, or the second holding, is another source's */
     LV_CONTRADICTS_GROUP = 11,  /* the packet contradicts the group held */
     LV_LATER_GROUP = 12,        /* the packet is a later group's: pour, then offer it again */
-    LV_EARLIER_GROUP = 13,      /* the packet is an earlier group's */
+    LV_EARLIER_GROUP = 13,      /* the packet is an earlier group's, or the second holding is not later */
     LV_PACKET_DIFFERS = 14,     /* a packet that is held already has other frames */
     LV_NO_ROOM = 15,            /* the output is shorter than the answer needs */
     LV_TOO_FAR_AHEAD = 16,      /* more than 100 packets are missing before it */
@@ -68,6 +68,13 @@ enum lv_form {
 enum lv_default {
     LV_DEFAULT_MAX_L = 5,
     LV_DEFAULT_MAX_B = 10
+};
+
+/* The range of the maxima, which L and B of a group are in too. The least L is 0. */
+enum lv_range {
+    LV_GREATEST_L = 7,
+    LV_LEAST_B = 1,
+    LV_GREATEST_B = 10
 };
 
 /* The EVRC frame types. */
@@ -213,9 +220,22 @@ uint8_t lv_session_pour(uint8_t *session, size_t len, uint8_t *out, size_t out_l
  * below LV_HOLDING_OCTETS). */
 uint8_t lv_session_copy(const uint8_t *session, size_t len, uint8_t *holding, size_t holding_len);
 
+/* Drops the group that a session holds: ends it as lv_session_pour does, and writes nothing of it. It is for
+ * a group that was copied out and recorded from there. The session is then as after pouring: it remembers
+ * the group's numbers, and counts from them what is lost.
+ * Refuses: 21 (not open, len below LV_SESSION_OCTETS, or no group held). */
+uint8_t lv_session_drop(uint8_t *session, size_t len);
+
 /* Ends a session, whatever the octets were: all LV_SESSION_OCTETS become zero.
  * Refuses: 15 (len below LV_SESSION_OCTETS). */
 uint8_t lv_session_end(uint8_t *session, size_t len);
+
+/* Reads what a holding is. On LV_OK: *source is its source, *sequence and *timestamp are its base numbers
+ * (those of its packet 0, held or not), *l and *b its L and B; bit n of *held is 1 if packet n is held, n
+ * from 0 to *l, and the bits above are 0.
+ * Refuses: 21 (it holds no packet, or len is below LV_HOLDING_OCTETS). */
+uint8_t lv_holding_read(const uint8_t *holding, size_t len, uint32_t *source, uint16_t *sequence,
+                        uint32_t *timestamp, uint8_t *l, uint8_t *b, uint8_t *held);
 
 /* Joins two holdings of one group: out holds every packet held in either. The two stay as they are.
  * Refuses, in this order: 21 (either holds no packet, or has fewer octets than LV_HOLDING_OCTETS), 20, 14,
@@ -227,6 +247,13 @@ uint8_t lv_holding_join(const uint8_t *a, size_t a_len, const uint8_t *b, size_t
  * Refuses, in this order: 21 (it holds no packet, or len is below LV_HOLDING_OCTETS), 15 (out_len too
  * small). */
 uint8_t lv_holding_pour(const uint8_t *holding, size_t len, uint8_t *out, size_t out_len, size_t *written);
+
+/* Counts what is lost between the group of one holding and that of a later one, by the rule of a session that
+ * has poured the first. On LV_OK: *lost is the number of frames lost between them, at most LV_LOST_MAX.
+ * Refuses, in this order: 21 (either holds no packet, or has fewer octets than LV_HOLDING_OCTETS), 10 (their
+ * sources differ), 13 (the second is not later than the first), 16. */
+uint8_t lv_holding_lost(const uint8_t *before, size_t before_len, const uint8_t *after, size_t after_len,
+                        size_t *lost);
 
 #ifdef __cplusplus
 }

@@ -9,7 +9,7 @@ use crate::library::Made;
 use crate::table::Table;
 
 /// The answers that each call can give.
-const ANSWERS: [(&str, &[u8]); 15] = [
+const ANSWERS: [(&str, &[u8]); 18] = [
     ("lv_payload_read", &[0, 1, 2, 3, 4, 5, 6, 7, 8, 9, 21]),
     ("lv_payload_frame", &[0, 1, 2, 3, 4, 5, 6, 7, 8, 9, 21]),
     ("lv_packet_write", &[0, 2, 3, 5, 6, 15, 17, 19, 21]),
@@ -22,9 +22,12 @@ const ANSWERS: [(&str, &[u8]); 15] = [
     ("lv_session_offer", &[0, 1, 2, 3, 4, 5, 6, 7, 8, 9, 10, 11, 12, 13, 14, 16, 21]),
     ("lv_session_pour", &[0, 15, 21]),
     ("lv_session_copy", &[0, 15, 21]),
+    ("lv_session_drop", &[0, 21]),
     ("lv_session_end", &[0, 15]),
+    ("lv_holding_read", &[0, 21]),
     ("lv_holding_join", &[0, 14, 15, 20, 21]),
     ("lv_holding_pour", &[0, 15, 21]),
+    ("lv_holding_lost", &[0, 10, 13, 16, 21]),
 ];
 
 /// How many differences are told in full.

@@ -26,12 +26,13 @@ use crate::paper::host;
 use crate::table::{Kind, Parameter};
 
 /// The files.
-const FILES: [(&str, &str); 6] = [
+const FILES: [(&str, &str); 7] = [
     ("payloads", include_str!("../rows/payloads.txt")),
     ("recordings", include_str!("../rows/recordings.txt")),
     ("packets", include_str!("../rows/packets.txt")),
     ("captures", include_str!("../rows/captures.txt")),
     ("sessions", include_str!("../rows/sessions.txt")),
+    ("two_boxes", include_str!("../rows/two_boxes.txt")),
     ("long_session", include_str!("../rows/long_session.txt")),
 ];
 

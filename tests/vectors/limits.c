@@ -8,10 +8,12 @@
 #include <stdio.h>
 #include <string.h>
 
-enum { MAX_L = 7, MAX_B = 10, PAYLOAD = 1 + MAX_B + MAX_B * LV_BODY_MAX, HEAD = 12, GUARD = 0xA5 };
+enum { MAX_L = LV_GREATEST_L, MAX_B = LV_GREATEST_B, PAYLOAD = 1 + MAX_B + MAX_B * LV_BODY_MAX };
+enum { HEAD = 12, GUARD = 0xA5 };
 
 static int failed;
 static uint8_t session[LV_SESSION_OCTETS + 1], holding[LV_HOLDING_OCTETS + 1], joined[LV_HOLDING_OCTETS];
+static uint8_t dropped[LV_SESSION_OCTETS], later[LV_HOLDING_OCTETS];
 static uint8_t capture[LV_CAPTURE_MAX + 1], recording[LV_RECORDING_MAX + 1], poured[LV_POURED_MAX + 1];
 static uint8_t payload[PAYLOAD];
 
@@ -48,7 +50,7 @@ static uint8_t open_session(int max_l, int max_b, size_t len)
 }
 
 /* LV_SESSION_OCTETS: fewer are refused, but after the form, and no more are written. Fewer that are read are no session.
- * The maxima and the defaults are in range. */
+ * LV_GREATEST_L, LV_LEAST_B and LV_GREATEST_B are the ends of the range, and the defaults are in it. */
 static void try_session(void)
 {
     size_t lost;
@@ -56,8 +58,11 @@ static void try_session(void)
     memset(session, GUARD, sizeof session);
     holds(open_session(MAX_L, MAX_B, LV_SESSION_OCTETS - 1) == LV_NO_ROOM, "a session needs LV_SESSION_OCTETS");
     holds(open_session(MAX_L + 1, MAX_B, LV_SESSION_OCTETS - 1) == LV_NOT_APPLICABLE, "21 comes before 15");
-    holds(open_session(MAX_L + 1, MAX_B, LV_SESSION_OCTETS) == LV_NOT_APPLICABLE, "L is at most 7");
-    holds(open_session(MAX_L, MAX_B + 1, LV_SESSION_OCTETS) == LV_NOT_APPLICABLE, "B is at most 10");
+    holds(open_session(MAX_L + 1, MAX_B, LV_SESSION_OCTETS) == LV_NOT_APPLICABLE, "L is at most LV_GREATEST_L");
+    holds(open_session(MAX_L, MAX_B + 1, LV_SESSION_OCTETS) == LV_NOT_APPLICABLE, "B is at most LV_GREATEST_B");
+    holds(open_session(0, LV_LEAST_B - 1, LV_SESSION_OCTETS) == LV_NOT_APPLICABLE &&
+              open_session(0, LV_LEAST_B, LV_SESSION_OCTETS) == LV_OK,
+          "B is at least LV_LEAST_B");
     holds(open_session(LV_DEFAULT_MAX_L, LV_DEFAULT_MAX_B, LV_SESSION_OCTETS) == LV_OK, "the defaults are in range");
     holds(open_session(MAX_L, MAX_B, sizeof session) == LV_OK, "LV_SESSION_OCTETS are enough");
     holds(session[LV_SESSION_OCTETS - 1] == 0 && session[LV_SESSION_OCTETS] == GUARD, "a session is LV_SESSION_OCTETS");
@@ -86,10 +91,36 @@ static void try_group(void)
               lv_holding_pour(joined, sizeof joined, poured, sizeof poured, &written) == LV_OK &&
               written == LV_POURED_MAX,
           "the greatest holding is LV_POURED_MAX octets poured");
+    memcpy(dropped, session, sizeof dropped);
     holds(lv_session_pour(session, LV_SESSION_OCTETS, poured, LV_POURED_MAX - 1, &written) == LV_NO_ROOM &&
               lv_session_pour(session, LV_SESSION_OCTETS, poured, LV_POURED_MAX, &written) == LV_OK &&
               written == LV_POURED_MAX,
           "the greatest group is LV_POURED_MAX octets poured");
+}
+
+/* LV_HOLDING_OCTETS, LV_GREATEST_L and LV_GREATEST_B: that group as it is read. Fewer octets are no holding. */
+static void try_read(void)
+{
+    uint32_t source = 0, timestamp = 1;
+    uint16_t sequence = 1;
+    uint8_t l = 0, b = 0, held = 0;
+
+    holds(lv_holding_read(holding, LV_HOLDING_OCTETS - 1, &source, &sequence, &timestamp, &l, &b, &held) ==
+              LV_NOT_APPLICABLE,
+          "fewer octets are no holding");
+    holds(lv_holding_read(holding, LV_HOLDING_OCTETS, &source, &sequence, &timestamp, &l, &b, &held) == LV_OK &&
+              source == 7 && sequence == 0 && timestamp == 0,
+          "a holding has its source and base numbers");
+    holds(l == LV_GREATEST_L && b == LV_GREATEST_B && held == 255, "the greatest group is held whole");
+}
+
+/* LV_SESSION_OCTETS: the session as it held that group. Fewer octets are no session; dropped, it is as if poured. */
+static void try_drop(void)
+{
+    holds(lv_session_drop(dropped, LV_SESSION_OCTETS - 1) == LV_NOT_APPLICABLE, "fewer octets are no session");
+    holds(lv_session_drop(dropped, LV_SESSION_OCTETS) == LV_OK && memcmp(dropped, session, sizeof dropped) == 0,
+          "a session that drops its group is as one that pours it");
+    holds(lv_session_drop(dropped, LV_SESSION_OCTETS) == LV_NOT_APPLICABLE, "a group is dropped once");
 }
 
 /* LV_LOST_MAX: behind that group, 101 packets missing are too many, and 100 are the most frames lost. */
@@ -99,6 +130,28 @@ static void try_lost(void)
 
     holds(offer(0, MAX_L + 1 + 101, &lost) == LV_TOO_FAR_AHEAD, "101 packets are too many");
     holds(offer(0, MAX_L + 1 + 100, &lost) == LV_OK && lost == LV_LOST_MAX, "at most LV_LOST_MAX frames are lost");
+}
+
+/* The lost frames between that group's holding and another one's, so many packets behind it, in so many octets. */
+static uint8_t lost_between(unsigned packets, size_t len, size_t *lost)
+{
+    holds(open_session(MAX_L, MAX_B, LV_SESSION_OCTETS) == LV_OK && offer(0, MAX_L + 1 + packets, lost) == LV_OK &&
+              lv_session_copy(session, LV_SESSION_OCTETS, later, sizeof later) == LV_OK,
+          "a group is held");
+    return lv_holding_lost(holding, LV_HOLDING_OCTETS, later, len, lost);
+}
+
+/* LV_LOST_MAX and LV_HOLDING_OCTETS: the same between two holdings. */
+static void try_lost_between(void)
+{
+    size_t lost = 0;
+
+    holds(lost_between(101, sizeof later, &lost) == LV_TOO_FAR_AHEAD, "101 packets are too many between holdings");
+    holds(lost_between(100, sizeof later - 1, &lost) == LV_NOT_APPLICABLE, "fewer octets are no later holding");
+    holds(lost_between(100, sizeof later, &lost) == LV_OK && lost == LV_LOST_MAX,
+          "at most LV_LOST_MAX frames are lost between holdings");
+    holds(lv_holding_lost(later, sizeof later, holding, LV_HOLDING_OCTETS, &lost) == LV_EARLIER_GROUP,
+          "the earlier holding is not later");
 }
 
 /* LV_BODY_MAX and LV_OPENING_OCTETS. */
@@ -227,7 +280,10 @@ int main(void)
 {
     try_session();
     try_group();
+    try_read();
+    try_drop();
     try_lost();
+    try_lost_between();
     try_octets();
     try_types();
     try_capture();

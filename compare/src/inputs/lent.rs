@@ -52,21 +52,38 @@ fn poured(maker: &mut Maker, session: &[u8]) -> Vec<u8> {
     left(&maker.call("lv_session_pour", &[], vec![session.to_vec(), vec![0; ROOM]]), 0)
 }
 
+/// A holding of packet N of a group alone.
+fn holding(maker: &mut Maker, base: u16, numbers: [u8; 3]) -> Vec<u8> {
+    let fresh = opened(maker);
+    let session = left(&offer(maker, &fresh, base, numbers, false), 0);
+    copied(maker, &session)
+}
+
+/// What is copied out of a session.
+fn copied(maker: &mut Maker, session: &[u8]) -> Vec<u8> {
+    left(&maker.call("lv_session_copy", &[], vec![session.to_vec(), vec![0; OCTETS]]), 1)
+}
+
 /// Offers at every distance near an edge, to a session that holds a group of L + 1 packets, and to one that has
-/// poured it.
+/// poured it; and what is lost between that group and one at this distance, and the other way round.
 fn every_distance(maker: &mut Maker, l: u8) -> Vec<Call> {
     let mut calls = Vec::new();
     let near = (0..=u16::from(l) + 2).chain(97..=112);
-    let edges: Vec<u16> = near.chain([32_766, 32_767, 32_768, 32_769, 32_776, 65_534, 65_535]).collect();
+    let far = [32_767, 32_768].map(|e| e + u16::from(l) + 1);
+    let edges: Vec<u16> = near.chain([32_766, 32_767, 32_768, 32_769, 65_534, 65_535]).chain(far).collect();
     for base in [0, 0x7FFF, 0xFFFA_u16] {
         let fresh = opened(maker);
         let b = maker.rng.small(1, 10);
         let held = left(&offer(maker, &fresh, base, [l, l / 2, b], false), 0);
-        let before = poured(maker, &held);
+        let (before, first) = (poured(maker, &held), copied(maker, &held));
         for &d in &edges {
-            let n = maker.rng.small(0, l);
-            calls.push(offer(maker, &held, base.wrapping_add(d), [l, n, b], false));
-            calls.push(offer(maker, &before, base.wrapping_add(d), [0, 0, 1], false));
+            let (n, new) = (maker.rng.small(0, l), base.wrapping_add(d));
+            calls.push(offer(maker, &held, new, [l, n, b], false));
+            calls.push(offer(maker, &before, new, [0, 0, 1], false));
+            let (l, b) = (maker.rng.small(0, 7), maker.rng.small(1, 10));
+            let second = holding(maker, new, [l, l / 2, b]);
+            calls.push(maker.call("lv_holding_lost", &[], vec![first.clone(), second.clone()]));
+            calls.push(maker.call("lv_holding_lost", &[], vec![second, first.clone()]));
         }
     }
     calls
@@ -80,20 +97,25 @@ fn heard(maker: &mut Maker, l: u8, b: u8, numbers: &[u8], erasures: bool) -> [Ve
     for &n in numbers {
         session = left(&offer(maker, &session, 0x0110, [l, n, b], erasures), 0);
     }
-    let copy = maker.call("lv_session_copy", &[], vec![session.clone(), vec![0; OCTETS]]);
-    [session, left(&copy, 1)]
+    let copy = copied(maker, &session);
+    [session, copy]
 }
 
 /// Calls on a session and a holding with octets changed: an offer of another source, which shows whether the session
-/// is open; and a pouring of the holding.
+/// is open, and its group dropped; a pouring and a reading of the holding, and what is lost between it and a later one.
 fn spoilt(maker: &mut Maker, [session, holding]: &[Vec<u8>; 2], changes: &[(usize, u8)]) -> Vec<Call> {
     let mut calls = Vec::new();
+    let later = self::holding(maker, 0x0130, [2, 1, 3]);
     for &(at, octet) in changes {
         let (mut session, mut holding) = (session.clone(), holding.clone());
         session[at] = octet;
         holding[at] = octet;
-        calls.push(maker.call("lv_session_offer", &[7, 0, 0], vec![session, vec![0, 0]]));
-        calls.push(maker.call("lv_holding_pour", &[], vec![holding, vec![0x77; ROOM]]));
+        calls.push(maker.call("lv_session_offer", &[7, 0, 0], vec![session.clone(), vec![0, 0]]));
+        calls.push(maker.call("lv_session_drop", &[], vec![session]));
+        calls.push(maker.call("lv_holding_pour", &[], vec![holding.clone(), vec![0x77; ROOM]]));
+        calls.push(maker.call("lv_holding_read", &[], vec![holding.clone()]));
+        calls.push(maker.call("lv_holding_lost", &[], vec![holding.clone(), later.clone()]));
+        calls.push(maker.call("lv_holding_lost", &[], vec![later.clone(), holding]));
     }
     calls
 }

@@ -1,5 +1,5 @@
-//! Sequences of calls over lent sessions and holdings: three sessions hear two talks, hold, pour, copy and join what
-//! they hear, and some octets are spoilt on the way. The next call is made on what the one before left.
+//! Sequences of calls over lent sessions and holdings: three sessions hear two talks, hold, pour, copy, drop and join
+//! what they hear, and some octets are spoilt on the way. The next call is made on what the one before left.
 
 use std::collections::VecDeque;
 
@@ -10,7 +10,7 @@ use super::Maker;
 use crate::call::{Call, Left};
 use crate::paper::host;
 use crate::paper::layout::{
-    FORM, GROUP, GROUP_AT, L, LAST_L, LAST_SEQUENCE, OCTETS, OPEN, OPEN_SOURCE, POURED, SEQUENCE, SESSION_END,
+    FORM, GROUP, GROUP_AT, L, LAST_L, LAST_SEQUENCE, OCTETS, OPEN, OPEN_SOURCE, POURED, SEQUENCE, SESSION_END, SOURCE,
 };
 use crate::rng::Rng;
 use crate::table::number;
@@ -36,9 +36,12 @@ enum Step {
     Offer(usize, Packet, bool),
     Pour(usize, usize),
     Copy(usize, usize),
+    Drop(usize),
     End(usize),
+    Read(usize),
     Join([usize; 3]),
     PourHolding(usize, usize),
+    Lost([usize; 2]),
 }
 
 /// A sequence: its talks, its buffers, the steps to come, and what is put back after the next call if that answers 21.
@@ -99,9 +102,12 @@ impl Sequence {
             }
             Step::Pour(who, room) => ("lv_session_pour", vec![], vec![lend(*who, rng), rng.octets(*room)]),
             Step::Copy(who, to) => ("lv_session_copy", vec![], vec![lend(*who, rng), lend(*to, rng)]),
+            Step::Drop(who) => ("lv_session_drop", vec![], vec![lend(*who, rng)]),
             Step::End(who) => ("lv_session_end", vec![], vec![lend(*who, rng)]),
+            Step::Read(of) => ("lv_holding_read", vec![], vec![lend(*of, rng)]),
             Step::Join(of) => ("lv_holding_join", vec![], of.map(|place| lend(place, rng)).to_vec()),
             Step::PourHolding(of, room) => ("lv_holding_pour", vec![], vec![lend(*of, rng), rng.octets(*room)]),
+            Step::Lost(of) => ("lv_holding_lost", vec![], of.map(|place| lend(place, rng)).to_vec()),
         };
         let mut call = maker.call(name, &scalars, given);
         let left = host::make(&call);
@@ -129,10 +135,11 @@ impl Sequence {
         }
     }
 
-    /// After 12 the group is poured and the packet offered again; a session that takes nothing of the talk is opened,
-    /// or the talk goes on.
+    /// After 12 the group is poured, or copied out and dropped, and the packet offered again; a session that takes
+    /// nothing of the talk is opened, or the talk goes on.
     fn follow(&mut self, who: usize, packet: Packet, answer: u8, rng: &mut Rng) {
         match answer {
+            12 if rng.one_in(3) => self.drop_group(who, packet),
             12 => self.steps.extend([Step::Pour(who, ROOM), Step::Offer(who, packet, false)]),
             10 | 21 => self.open(who),
             13 | 16 if rng.one_in(3) => self.open(who),
@@ -147,8 +154,8 @@ impl Sequence {
         let talk = self.talks[if other { 1 - who / 2 } else { who / 2 }].clone();
         let room = rng.pick(&[ROOM, ROOM, ROOM, ROOM + 9, 0, 1, 8]);
         let [a, b, c] = [0; 3].map(|_| SESSIONS + rng.between(0, HOLDINGS - 1));
-        let rare = [51, 57, 61, 67, 75, 80, 80, 80];
-        match if self.even && rng.one_in(2) { rng.pick(&rare) } else { rng.between(0, 99) } {
+        let rare = [51, 57, 61, 67, 75, 80, 80, 80, 100, 104, 108];
+        match if self.even && rng.one_in(2) { rng.pick(&rare) } else { rng.between(0, 109) } {
             0..=24 => self.offer(who, talk.packet(rng), rng),
             25..=36 => {
                 let mut packet = talk.packet(rng);
@@ -168,8 +175,38 @@ impl Sequence {
             83 => self.talks[who / 2].renew(rng),
             84 => self.talks[who / 2] = Talk::new(rng, 1, 7, 10),
             85..=93 => self.spoil(who, rng),
-            _ => self.spoil(a, rng),
+            94..=99 => self.spoil(a, rng),
+            100..=103 => self.steps.push_back(Step::Drop(who)),
+            104..=106 => self.steps.push_back(Step::Read(a)),
+            107 => self.steps.push_back(Step::Lost([a, b])),
+            _ => self.lose_aimed(a, b, rng),
         }
+    }
+
+    /// Plans what a host of two boxes does after 12: the group is copied out and dropped, and the packet offered again;
+    /// the lost frames between the copy and that of the new group are those that the offer tells.
+    fn drop_group(&mut self, who: usize, packet: Packet) {
+        let [before, after] = [SESSIONS + who, SESSIONS + (who + 1) % HOLDINGS];
+        self.steps.extend([Step::Copy(who, before), Step::Drop(who), Step::Offer(who, packet, false)]);
+        self.steps.extend([Step::Copy(who, after), Step::Read(after), Step::Lost([before, after])]);
+    }
+
+    /// The lost frames between a holding and one like it, at a distance that the rule turns on; at times of another
+    /// source.
+    fn lose_aimed(&mut self, before: usize, after: usize, rng: &mut Rng) {
+        let mut octets = self.shelf[before][..OCTETS].to_vec();
+        if octets.iter().all(|&octet| octet == 0) {
+            return self.steps.push_back(Step::Copy(rng.between(0, SESSIONS - 1), before));
+        }
+        let base = u16::from_be_bytes([octets[SEQUENCE], octets[SEQUENCE + 1]]);
+        let end = base.wrapping_add(u16::from(octets[L]) + 1);
+        let new = rng.pick(&[base, end, end, end]).wrapping_add(rng.pick(&DISTANCES));
+        octets[SEQUENCE..SEQUENCE + 2].copy_from_slice(&new.to_be_bytes());
+        if rng.one_in(8) {
+            octets[SOURCE + rng.between(0, 3)] ^= 1 << rng.between(0, 7);
+        }
+        self.shelf[after][..OCTETS].copy_from_slice(&octets);
+        self.steps.push_back(Step::Lost([before, after]));
     }
 
     /// Plans an offer; most often what its answer calls for follows.
@@ -218,7 +255,7 @@ impl Sequence {
         }
         let joined = SESSIONS + rng.between(0, HOLDINGS - 1);
         self.steps.push_back(Step::Join([SESSIONS + who, SESSIONS + other, joined]));
-        self.steps.push_back(Step::PourHolding(joined, ROOM));
+        self.steps.extend([Step::Read(joined), Step::PourHolding(joined, ROOM)]);
     }
 
     /// Spoils a buffer, if it has anything of the kind, and makes a call that shows it.
@@ -238,11 +275,14 @@ impl Sequence {
         self.spoilt = Some((place, old));
         let other = SESSIONS + rng.between(0, HOLDINGS - 1);
         let source = u32::from_be_bytes(octets[OPEN_SOURCE..OPEN_SOURCE + 4].try_into().expect("four octets"));
-        self.steps.push_front(match (session, rng.between(0, 4)) {
+        self.steps.push_front(match (session, rng.between(0, 6)) {
             (true, 0) => Step::Pour(place, ROOM),
             (true, 1) => Step::Copy(place, other),
+            (true, 2) => Step::Drop(place),
             (true, _) => Step::Offer(place, Packet { source, ..self.talks[place / 2].packet(rng) }, false),
             (false, 0 | 1) => Step::Join([place, place, other]),
+            (false, 2) => Step::Read(place),
+            (false, 3) => Step::Lost(rng.pick(&[[place, other], [other, place]])),
             (false, _) => Step::PourHolding(place, ROOM),
         });
     }

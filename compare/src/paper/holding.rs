@@ -68,6 +68,14 @@ pub fn pour(holding: Option<&Holding>, room: usize) -> Answer<Vec<u8>> {
     fitting(holding.ok_or(21)?.entries(), room)
 }
 
+/// What a holding is: "source, base sequence number, base timestamp, L, B, which packets are held". Bit N of the last is
+/// 1 if packet N is held. 21 if it holds no packet.
+pub fn read(holding: Option<Holding>) -> Answer<(Group, u8)> {
+    let Holding { group, packets } = holding.ok_or(21)?;
+    let held = packets.iter().zip(0..).filter(|(packet, _)| packet.is_some());
+    Ok((group, held.map(|(_, n)| 1_u8 << n).sum()))
+}
+
 /// "Joining two holdings: 21 if either holds no packet; 20 if source, bases, L or B differ; 14 if a packet held in both
 /// differs; else every packet held in either."
 pub fn join(a: Option<Holding>, b: Option<Holding>) -> Answer<Holding> {

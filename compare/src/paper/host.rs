@@ -11,11 +11,11 @@ use crate::call::{Call, Left};
 
 /// The calls, as include/landing_voice.h has them.
 #[rustfmt::skip]
-pub const CALLS: [&str; 15] = [
+pub const CALLS: [&str; 18] = [
     "lv_payload_read", "lv_payload_frame", "lv_packet_write", "lv_packet_write_header_free",
     "lv_recording_read", "lv_recording_frame", "lv_recording_write", "lv_capture_record",
-    "lv_session_open", "lv_session_offer", "lv_session_pour", "lv_session_copy", "lv_session_end",
-    "lv_holding_join", "lv_holding_pour",
+    "lv_session_open", "lv_session_offer", "lv_session_pour", "lv_session_copy", "lv_session_drop", "lv_session_end",
+    "lv_holding_read", "lv_holding_join", "lv_holding_pour", "lv_holding_lost",
 ];
 
 /// Makes a call. "Each refusal returns its number and nothing else, and changes nothing lent."
@@ -71,11 +71,19 @@ fn on_lent(call: &Call, buffers: &mut [Vec<u8>]) -> Answer<()> {
         }
         ("lv_session_pour", [], [session, out, written]) => fill(out, written, |room| lent::pour(session, room)),
         ("lv_session_copy", [], [session, holding]) => lent::copy(session, holding),
+        ("lv_session_drop", [], [session]) => lent::drop_group(session),
         ("lv_session_end", [], [session]) => lent::end(session),
+        ("lv_holding_read", [], [holding, source, sequence, timestamp, l, b, held]) => {
+            let (group, packets) = lent::read(holding)?;
+            tell([source, timestamp], [group.source, group.base.timestamp].map(|number| number as usize))?;
+            tell([sequence], [group.base.sequence.into()])?;
+            tell([l, b, held], [group.l, group.b, packets].map(usize::from))
+        }
         ("lv_holding_join", [], [a, b, out]) => lent::join(a, b, out),
         ("lv_holding_pour", [], [holding, out, written]) => {
             fill(out, written, |room| lent::pour_holding(holding, room))
         }
+        ("lv_holding_lost", [], [before, after, lost]) => tell([lost], [lent::lost(before, after)? as usize]),
         (name, scalars, _) => {
             panic!("no call {name} with {} scalars and {given} buffers", scalars.len())
         }

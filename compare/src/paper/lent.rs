@@ -6,9 +6,10 @@
 
 use super::answers::{refuse, Answer};
 use super::form::{Form, Limits};
+use super::groups::Group;
 use super::holding;
 use super::layout::{self, OCTETS};
-use super::session::{Packet, Session};
+use super::session::{self, Packet, Session};
 
 /// Opens a session, whatever its octets were: 21 if there is no such form or a maximum is out of range.
 pub fn open(octets: &mut [u8], source: u32, form: u8, limits: Limits) -> Answer<()> {
@@ -42,11 +43,24 @@ pub fn copy(octets: &[u8], out: &mut [u8]) -> Answer<()> {
     Ok(())
 }
 
+/// Drops a session's group.
+pub fn drop_group(octets: &mut [u8]) -> Answer<()> {
+    let mut session = layout::session(octets);
+    session.drop_group()?;
+    write(octets, &layout::of_session(&session));
+    Ok(())
+}
+
 /// "Ending a session clears all of it, a held group and the memory of the last one", whatever its octets were.
 pub fn end(octets: &mut [u8]) -> Answer<()> {
     room(octets)?;
     write(octets, &layout::of_session(&Session::default()));
     Ok(())
+}
+
+/// What a holding is.
+pub fn read(octets: &[u8]) -> Answer<(Group, u8)> {
+    holding::read(layout::holding(octets))
 }
 
 /// Joins two holdings.
@@ -60,6 +74,11 @@ pub fn join(a: &[u8], b: &[u8], out: &mut [u8]) -> Answer<()> {
 /// Pours a holding into so much room.
 pub fn pour_holding(octets: &[u8], room: usize) -> Answer<Vec<u8>> {
     holding::pour(layout::holding(octets).as_ref(), room)
+}
+
+/// The lost frames between two holdings' groups.
+pub fn lost(before: &[u8], after: &[u8]) -> Answer<u32> {
+    session::lost(layout::holding(before), layout::holding(after))
 }
 
 /// 15 if there are fewer octets than a session or holding has.

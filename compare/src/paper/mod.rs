@@ -8,8 +8,8 @@
 //! form         "Payloads"             the agreed form and its maxima
 //! payload      "Payloads"             reading payloads
 //! groups       "Groups"               base numbers, time places, distances
-//! holding      "Groups", "Session"    one group as far as heard; poured, joined
-//! session      "Session"              open, offer, pour, copy out, end
+//! holding      "Groups", "Session"    one group as far as heard; read, poured, joined
+//! session      "Session"              open, offer, pour, copy out, drop, end; what is lost between groups
 //! entries      "Recordings"           the walk over entries
 //! packets      "Writing packets"
 //! recordings   "Recordings"

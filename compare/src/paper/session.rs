@@ -78,15 +78,31 @@ impl Session {
     pub fn pour(&mut self, room: usize) -> Answer<Vec<u8>> {
         let held = self.copy()?;
         let entries = holding::pour(Some(&held), room)?;
-        let Group { base, l, b, .. } = held.group;
-        self.last = Last { poured: true, base: base.sequence, l, b };
-        self.held = None;
+        self.end_group(held.group);
         Ok(entries)
+    }
+
+    /// Drops the group: 21 if the session is not open or holds none; it "is then as after pouring".
+    pub fn drop_group(&mut self) -> Answer<()> {
+        self.copy().map(|dropped| self.end_group(dropped.group))
+    }
+
+    /// Ends the group held, and remembers its numbers.
+    fn end_group(&mut self, group: Group) {
+        self.last = Last::of(group);
+        self.held = None;
     }
 
     /// "A session's holding can be copied out (21 likewise)."
     pub fn copy(&self) -> Answer<Holding> {
         self.open.and(self.held.clone()).ok_or(21)
+    }
+}
+
+impl Last {
+    /// A group as it is remembered once it is poured.
+    fn of(Group { base, l, b, .. }: Group) -> Last {
+        Last { poured: true, base: base.sequence, l, b }
     }
 }
 
@@ -124,6 +140,14 @@ pub fn judge_d(d: u16, l: u8) -> Answer<()> {
 pub fn judge_e(e: u16) -> Answer<()> {
     refuse(13, e >= 32_768)?;
     refuse(16, e > 100)
+}
+
+/// The lost frames between two holdings' groups: 21 if either holds no packet, 10 if their sources differ, then "by the
+/// rule of a session that poured" the first.
+pub fn lost(before: Option<Holding>, after: Option<Holding>) -> Answer<u32> {
+    let (before, after) = (before.ok_or(21)?.group, after.ok_or(21)?.group);
+    refuse(10, after.source != before.source)?;
+    lost_between(&Last::of(before), &after)
 }
 
 /// "Else [...] e x B lost frames", B being the poured group's.

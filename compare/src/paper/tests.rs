@@ -5,7 +5,7 @@ use super::form::{Form, Limits};
 use super::groups::{d, e, Base};
 use super::holding::{self, Holding};
 use super::host::make;
-use super::session::{judge_d, judge_e, Packet, Session};
+use super::session::{judge_d, judge_e, lost, Packet, Session};
 use super::{capture, payload};
 use crate::call::Call;
 
@@ -156,6 +156,33 @@ fn two_boxes_have_the_whole_case() {
     assert_eq!(holding::pour(joined.ok().as_ref(), 12), Ok(hex(POURED)));
     assert_eq!(holding::join(a.clone(), a.clone()).ok(), a);
     assert_eq!(holding::join(a, None), Err(21));
+}
+
+#[test]
+fn a_holding_tells_its_group_and_packets() {
+    let (a, b) = (heard(FIRST), heard(SECOND));
+    let joined = holding::join(a.clone(), b.clone()).ok();
+    let (group, held) = holding::read(a).expect("a packet is held");
+    assert_eq!((group.source, group.base, group.l, group.b), (7, Base::of(0, 0, 1), 1, 2));
+    assert_eq!((held, holding::read(b), holding::read(joined)), (1, Ok((group, 2)), Ok((group, 3))));
+    assert_eq!(holding::read(None), Err(21));
+}
+
+/// "The session is then as after pouring", and what is lost between two holdings is what it reports.
+#[test]
+fn a_dropped_group_counts_as_a_poured_one() {
+    for e in (0..=101).chain([32_767, 32_768, 65_535]) {
+        let mut session = opened();
+        assert_eq!(session.drop_group(), Err(21));
+        assert_eq!(offer(&mut session, FIRST), Ok(0));
+        let mut poured = session.clone();
+        assert_eq!(poured.pour(200).map(|octets| octets.len()), Ok(8));
+        assert_eq!((session.drop_group(), session.drop_group()), (Ok(()), Err(21)));
+        assert_eq!(session, poured);
+        let later = (0x0001_u16.wrapping_add(e), 0, "00 80 80 00");
+        assert_eq!(offer(&mut session, later), lost(heard(FIRST), heard(later)), "e = {e}");
+    }
+    assert_eq!((lost(None, heard(FIRST)), lost(heard(FIRST), None)), (Err(21), Err(21)));
 }
 
 /// "Frame k of packet N stands at time place k x (L + 1) + N": in the greatest group, its place as its body.

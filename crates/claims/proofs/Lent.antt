@@ -67,7 +67,7 @@ are-long o w e = go (leb 2304 (length o)) refl e
     go false l q = apart (cc)
 
 -- ---- what is read is as long as its type makes it
-nothing-shaped : Shaped holdingShape (nothing holdingShape)
+pub nothing-shaped : Shaped holdingShape (nothing holdingShape)
 unfolding nothing begun
 nothing-shaped = record { long-held = refl; long-marks = refl; long-room = refl }
 

@@ -276,7 +276,7 @@ session-reads-back s none x z d =
     sym (session-there (w ++ rest) s (there-laid w rest (length-session-laid s x)) (session-back s rest none x z))
 
 -- ---- a session in which no group was poured has the numbers of none
-zero-none : (s : Session) → s .«last_sequence» ≡ 0 → s .«last_l» ≡ 0 → s .«last_b» ≡ 0 → NoneRemembered s
+pub zero-none : (s : Session) → s .«last_sequence» ≡ 0 → s .«last_l» ≡ 0 → s .«last_b» ≡ 0 → NoneRemembered s
 unfolding NoneRemembered
 zero-none s a b c = λ e. (a, (b, c))
 

@@ -20,6 +20,7 @@ pub mod Marks
 pub mod LentBack
 pub mod Demand3
 pub mod HostDemand3
+pub mod Opened
 pub mod Lent
 pub mod LentJoinings
 pub mod Examples

@@ -23,7 +23,7 @@ use Rattle.knowledge.proofs.JoinLaws.{box-blank, right-held}
 use Rattle.claims.specs.Packets.{narrow, AreOctets}
 
 -- a list whose every place is an octet
-places-octets : (xs : List ℕ) → ((i : ℕ) → i < length xs → getD xs i 0 < 256) → AreOctets xs
+pub places-octets : (xs : List ℕ) → ((i : ℕ) → i < length xs → getD xs i 0 < 256) → AreOctets xs
 places-octets [] h = tt
 places-octets (x ∷ xs) h = (h 0 (omega arith), places-octets xs (λ i k. h (suc i) (omega arith)))
 

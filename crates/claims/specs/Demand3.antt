@@ -18,11 +18,15 @@ use Rattle.entries.specs.Entries.{entriesOf}
 use Rattle.numbers.specs.declared.GroupNumbers.{GroupNumbers}
 use Rattle.packet.specs.Packet.{groupIn}
 use Rattle.session.specs.declared.Session.{Session}
+use Rattle.session.specs.declared.Started.{Started}
+use Rattle.answers.specs.declared.Answer.the-variants.{Done}
+use Rattle.landing.specs.Host.{namedForm}
+use Rattle.landing.specs.declared.Named.the-variants.{Agreed}
 use Rattle.session.specs.declared.Offered.{Offered}
 use Rattle.session.specs.declared.Taken.the-variants.{Accepted}
 use Rattle.lending.specs.Laid.{sessionIn}
-use Rattle.claims.specs.Call.{Build}
-use Rattle.claims.specs.Calls.Lent.{LentOut, LentSessionLost}
+use Rattle.claims.specs.Call.{Outcome, Build}
+use Rattle.claims.specs.Calls.Lent.{LentOut, LentSession, LentSessionLost}
 use Rattle.claims.specs.Calls.Landing as landing
 use Rattle.claims.specs.Calls.Packet as packet
 use Rattle.claims.specs.Calls.Session as session
@@ -137,3 +141,11 @@ HostDemand3 =
     (n : ℕ) (ns : List ℕ) → Within (g .numbers .l) (n ∷ ns) →
     HostAccepted offer g o (lostBefore (voiceFor form .shape) (sessionIn (o .session)) (g .numbers)) (n ∷ ns)
     × HostPoured pour g (hostOfferAll offer g o (n ∷ ns) .session) (n ∷ ns)
+
+-- ---- "a session ready for it": one that was just opened, through `session::open` or `lv_session_open`, for every group of its source
+pub record OpenedIsReady : Type 0 where
+  pub opened : (s : Session) (source : ℕ) (form : Form) (x : Started) → Outcome session.«open» (s, (source, form)) tt x tt →
+      x .answer ≡ Done → (g : GroupNumbers) → Ready (voiceFor form) form (x .session) source g
+  pub host : (source named l b : ℕ) (form : Form) → namedForm named l b ≡ Agreed form → (o after : LentSession) →
+      Outcome landing.lvSessionOpen (source, (named, (l, b))) o 0 after →
+      (g : GroupNumbers) → Ready (voiceFor form) form (sessionIn (after .session)) source g

@@ -1,5 +1,6 @@
--- The face of the house: all that it promises, in one record. Each field is a claim of a page beside this one, in the order's own
--- order; proofs/Main.antt has its one value. A claim that is no field here, and no part of one, is refused by the gate (tools/claims).
+-- The face of the house: all that it promises, in one record. Each field is a claim of a page beside this one, under the sentence of the
+-- order that it carries; proofs/Main.antt has its one value. A claim that is no field here, and no part of one, is refused by the gate
+-- (tools/claims), and so is a sentence of the three demands that does not stand here.
 use Rattle.claims.specs.Demand1.{Demand1}
 use Rattle.claims.specs.Refusals.{RefusalsAreNumbered, RattleDemand1, AnotherSource}
 use Rattle.claims.specs.Payloads.{RRIgnored, RefusalsPartEmpty}
@@ -15,7 +16,7 @@ use Rattle.claims.specs.Packets.{PacketReadAfterWrite, PacketWriteAfterR
 use Rattle.claims.specs.Packets.{HeaderFreeWriteAfterRead, SendableIsWritten, WriterWrites, HeaderFreeWriterWrites}
 use Rattle.claims.specs.Recordings.{RecordingReadAfterWrite, RecordingWriteAfterRead, RecordingSameOctets, OpeningAlone}
 use Rattle.claims.specs.Recordings.{RecordingRefusalsPartEmpty}
-use Rattle.claims.specs.Demand3.{Demand3, HostDemand3}
+use Rattle.claims.specs.Demand3.{Demand3, HostDemand3, OpenedIsReady}
 use Rattle.claims.specs.Offering.{FreshIsReady, OffersDeliver}
 use Rattle.claims.specs.Sending.{WriterSends, HeaderFreeWriterSends, WriterSendsNoErasure, TablesNeverSendErasures}
 use Rattle.claims.specs.Missing.{OneMissingPacket}
@@ -33,9 +34,23 @@ use Rattle.claims.specs.TwoBoxes.{PourAndDropAlike, LostBetweenIsReporte
 
 -- every claim of the pages beside this one
 pub record Promised : Type 0 where
-  -- demand 1: "Each call answers, or refuses by a number in document 01. A refusal changes no session and no octet of a lent buffer."
+  -- the order, "Purpose": "A session left open must never take the next skipper's words."
+  pub opening-forgets : OpeningForgets
+  pub ending-forgets : EndingForgets
+  pub ended-takes-nothing : EndedTakesNothing
+  pub first-packet-begins-alone : FirstPacketBeginsAlone
+  -- "a small program that turns a capture into a recording"
+  pub capture-exactly-if : CaptureExactlyIf
+  pub group-is-recorded : GroupIsRecorded
+  pub first-source-alone : FirstSourceAlone
+  pub others-are-not-heard : OthersAreNotHeard
+  pub gives-a-recording : GivesARecording
+  pub no-packet-gives-opening : NoPacketGivesOpening
+  pub nothing-is-larger : NothingIsLarger
+  -- 1: "Any octets may come in. Each call answers, or refuses by a number in document 01."
   pub demand-1 : Demand1
   pub refusals-are-numbered : RefusalsAreNumbered
+  -- "A refusal changes no session and no octet of a lent buffer."
   pub rattle-demand-1 : RattleDemand1
   pub refused-offer-changes-nothing : RefusedOfferChangesNothing
   pub refusals-part-empty : RefusalsPartEmpty
@@ -44,11 +59,61 @@ pub record Promised : Type 0 where
   pub another-source : AnotherSource
   pub another-source-is-10 : AnotherSourceIs10
   pub another-sources-words-are-not-heard : AnotherSourcesWordsAreNotHeard
-  -- "A session left open must never take the next skipper's words."
-  pub opening-forgets : OpeningForgets
-  pub ending-forgets : EndingForgets
-  pub ended-takes-nothing : EndedTakesNothing
-  pub first-packet-begins-alone : FirstPacketBeginsAlone
+  -- 2: "Packets and recordings mean what the payload format says, as document 01 sets it out."
+  pub marked-examples : MarkedExamples
+  pub rr-ignored : RRIgnored
+  pub opening-alone : OpeningAlone
+  pub kinds-pass : KindsPass
+  -- "Writing and then reading gives back the frames;"
+  pub packet-read-after-write : PacketReadAfterWrite
+  pub header-free-read-after-write : HeaderFreeReadAfterWrite
+  pub recording-read-after-write : RecordingReadAfterWrite
+  pub writer-writes : WriterWrites
+  pub header-free-writer-writes : HeaderFreeWriterWrites
+  pub sendable-is-written : SendableIsWritten
+  -- "reading and then writing gives back the octets, under the conditions stated there."
+  pub packet-write-after-read : PacketWriteAfterRead
+  pub header-free-write-after-read : HeaderFreeWriteAfterRead
+  pub recording-write-after-read : RecordingWriteAfterRead
+  pub recording-same-octets : RecordingSameOctets
+  -- 3: "Take one interleave group written by our writer, numbered and stamped as document 01 says, and a session ready for it, of the form
+  -- it was written in, under limits that admit it. Offer at least one of its packets, any of them, in any order, repeats allowed. Poured
+  -- into a buffer with room, each place has the original frame if its packet was offered and an erasure if not." From end to end, in Rattle
+  -- and through the C calls; behind these what they are chained of
+  pub demand-3 : Demand3
+  pub host-demand-3 : HostDemand3
+  pub opened-is-ready : OpenedIsReady
+  pub fresh-is-ready : FreshIsReady
+  pub offers-deliver : OffersDeliver
+  pub writer-sends : WriterSends
+  pub header-free-writer-sends : HeaderFreeWriterSends
+  pub repeat-changes-nothing : RepeatChangesNothing
+  pub lost-frames-by-formula : LostFramesByFormula
+  pub octet-count-by-formula : OctetCountByFormula
+  pub every-place-in-time : EveryPlaceInTime
+  -- "If exactly one packet of two or more is missing, exactly as many erasures stand there as a packet has frames, and no two are
+  -- neighbours."
+  pub one-missing-packet : OneMissingPacket
+  pub writer-sends-no-erasure : WriterSendsNoErasure
+  pub tables-never-send-erasures : TablesNeverSendErasures
+  -- "Holdings of that same group from several boxes join to the same holding in every order and grouping,"
+  pub every-order-and-grouping : EveryOrderAndGrouping
+  pub every-permutation : EveryPermutation
+  pub difference-ends-in-14 : DifferenceEndsIn14
+  pub else-they-join : ElseTheyJoin
+  pub nothing-lost : NothingLost
+  pub nothing-invented : NothingInvented
+  pub equal-knowledge : EqualKnowledge
+  pub voices-have-room : VoicesHaveRoom
+  pub lent-joinings : LentJoinings
+  -- "a holding joined with itself is unchanged,"
+  pub with-itself : WithItself
+  -- "and the outcome is what one box would hold had it heard all those packets."
+  pub boxes-join : BoxesJoin
+  pub copied-out : CopiedOut
+  -- what a host of two boxes asks: document 01, "ends the group", and "the answer reports e x B lost frames before it"
+  pub pour-and-drop-alike : PourAndDropAlike
+  pub lost-between-is-reported : LostBetweenIsReported
   -- the octets that a host lends for sessions and holdings
   pub zero-is-never-opened : ZeroIsNeverOpened
   pub short-is-none : ShortIsNone
@@ -63,62 +128,8 @@ pub record Promised : Type 0 where
   pub equal-is-equal-octets : EqualIsEqualOctets
   pub repeat-changes-no-octet : RepeatChangesNoOctet
   pub equal-knowledge-equal-octets : EqualKnowledgeEqualOctets
-  -- demand 2: "Writing and then reading gives back the frames; reading and then writing gives back the octets"
-  pub rr-ignored : RRIgnored
-  pub writer-writes : WriterWrites
-  pub header-free-writer-writes : HeaderFreeWriterWrites
-  pub sendable-is-written : SendableIsWritten
-  pub packet-read-after-write : PacketReadAfterWrite
-  pub packet-write-after-read : PacketWriteAfterRead
-  pub header-free-read-after-write : HeaderFreeReadAfterWrite
-  pub header-free-write-after-read : HeaderFreeWriteAfterRead
-  pub kinds-pass : KindsPass
-  pub recording-read-after-write : RecordingReadAfterWrite
-  pub recording-write-after-read : RecordingWriteAfterRead
-  pub recording-same-octets : RecordingSameOctets
-  pub opening-alone : OpeningAlone
-  -- demand 3: "each place has the original frame if its packet was offered and an erasure if not"
-  pub demand-3 : Demand3
-  pub host-demand-3 : HostDemand3
-  pub fresh-is-ready : FreshIsReady
-  pub offers-deliver : OffersDeliver
-  pub writer-sends : WriterSends
-  pub header-free-writer-sends : HeaderFreeWriterSends
-  pub repeat-changes-nothing : RepeatChangesNothing
-  pub lost-frames-by-formula : LostFramesByFormula
-  pub octet-count-by-formula : OctetCountByFormula
-  -- "If exactly one packet of two or more is missing, exactly as many erasures stand there as a packet has frames"
-  pub one-missing-packet : OneMissingPacket
-  pub writer-sends-no-erasure : WriterSendsNoErasure
-  pub tables-never-send-erasures : TablesNeverSendErasures
-  -- "Holdings of that same group from several boxes join to the same holding in every order and grouping"
-  pub every-order-and-grouping : EveryOrderAndGrouping
-  pub every-permutation : EveryPermutation
-  pub with-itself : WithItself
-  pub difference-ends-in-14 : DifferenceEndsIn14
-  pub else-they-join : ElseTheyJoin
-  pub nothing-lost : NothingLost
-  pub nothing-invented : NothingInvented
-  pub equal-knowledge : EqualKnowledge
-  pub every-place-in-time : EveryPlaceInTime
-  pub voices-have-room : VoicesHaveRoom
-  pub lent-joinings : LentJoinings
-  -- "the outcome is what one box would hold had it heard all those packets"
-  pub copied-out : CopiedOut
-  pub boxes-join : BoxesJoin
-  -- "a small program that turns a capture into a recording"
-  pub capture-exactly-if : CaptureExactlyIf
-  pub group-is-recorded : GroupIsRecorded
-  pub first-source-alone : FirstSourceAlone
-  pub others-are-not-heard : OthersAreNotHeard
-  pub gives-a-recording : GivesARecording
-  pub no-packet-gives-opening : NoPacketGivesOpening
-  pub nothing-is-larger : NothingIsLarger
-  -- document 01, "Marked examples"
-  pub marked-examples : MarkedExamples
-  -- document 02, (i): "Refusals 4 to 8 of a payload must carry the octet place of the fault"; the calls show the refusal alone as yet
-  pub faults-have-places : FaultsHavePlaces
-  -- document 01, "What the promises have to say": the idle builds, and that any two outcomes allowed are equal
+  -- document 01, "What the promises have to say": any two outcomes allowed are equal; and the idle builds
+  pub determined : Determined
   pub buildable : Buildable
   pub refuses-everything : RefusesEverything
   pub pours-erasures : PoursErasures
@@ -126,7 +137,5 @@ pub record Promised : Type 0 where
   pub nods-at-later : NodsAtLater
   pub invents-lost-frames : InventsLostFrames
   pub invents-octet-counts : InventsOctetCounts
-  pub determined : Determined
-  -- a host of two boxes: "ends the group", and "the answer reports e x B lost frames before it"
-  pub pour-and-drop-alike : PourAndDropAlike
-  pub lost-between-is-reported : LostBetweenIsReported
+  -- document 02, (i): "Refusals 4 to 8 of a payload must carry the octet place of the fault"; the calls show the refusal alone as yet
+  pub faults-have-places : FaultsHavePlaces

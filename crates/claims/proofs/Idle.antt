@@ -29,18 +29,19 @@ use Rattle.session.specs.declared.Taken.{Taken}
 use Rattle.session.specs.declared.Taken.the-variants.{Accepted, Refused}
 use Rattle.claims.specs.Call.{Build}
 use Rattle.claims.specs.Calls.Session as session
+use Rattle.claims.specs.Refusals.{RefusedOffer}
 use Rattle.claims.specs.Sessions.{lostBefore, OctetCountByFormula}
 use Rattle.claims.specs.Offering.{Within, among, HoldsExactly, sentPacket}
 use Rattle.claims.specs.Missing.{isErasure, NoErasure}
 use Rattle.claims.specs.Demand3.{originals, offerThrough, offerAllThrough, AcceptedThrough, Demand3}
-use Rattle.claims.specs.Idle.{Taken3, IsRefused, RefusesEverything, PoursErasures, StoresNothing, NodsAtLater, InventsLostFrames, InventsOctetCounts}
+use Rattle.claims.specs.Idle.{Case3, RefusesEverything, PoursErasures, StoresNothing, NodsAtLater, InventsLostFrames, InventsOctetCounts}
 use Rattle.claims.proofs.Sessions.{octet-count-by-formula}
 use Rattle.claims.proofs.Offering.{some-held}
 use Rattle.claims.proofs.Demand3.{accepts, sent-so, t-l, t-b, t-frames, delivered, none-erased, demand-3}
 use Rattle.claims.proofs.Builds.{pours-so}
 
 -- ---- the first packet is accepted, and then held
-first-told : (offer : Build session.offer) (c : Taken3) → offerThrough offer (c .group) (c .session) (c .n) .answer ≡ Accepted (lostBefore holdingShape (c .session) (c .group .numbers))
+first-told : (offer : Build session.offer) (c : Case3) → offerThrough offer (c .group) (c .session) (c .n) .answer ≡ Accepted (lostBefore holdingShape (c .session) (c .group .numbers))
 unfolding AcceptedThrough
 first-told offer c = accepts (c .write) offer (c .group) (c .form) (c .admitted) (c .session) (c .ready) (c .n) [] (c .within, tt) .0 .0
 
@@ -48,7 +49,7 @@ pub refuses-everything : RefusesEverything
 unfolding RefusesEverything
 refuses-everything offer h c = go _ (first-told offer c) (h _)
   where
-    go : (x : Taken) → x ≡ Accepted (lostBefore holdingShape (c .session) (c .group .numbers)) → IsRefused x → ⊥
+    go : (x : Taken) → x ≡ Accepted (lostBefore holdingShape (c .session) (c .group .numbers)) → RefusedOffer x → ⊥
     go (Accepted lost) e i = i
     go (Refused r) e i = apart (cc)
 
@@ -62,7 +63,7 @@ invents-lost-frames offer c k e d =
     same q = cc
 
 -- what is held after these packets
-held-after : (offer : Build session.offer) (c : Taken3) (ns : List ℕ) → Within (c .group .numbers .l) (c .n ∷ ns) →
+held-after : (offer : Build session.offer) (c : Case3) (ns : List ℕ) → Within (c .group .numbers .l) (c .n ∷ ns) →
     HoldsExactly (offerAllThrough offer (c .group) (c .session) (c .n ∷ ns)) (sent-so (c .write) (c .group) .sent (c .form) (c .admitted)) (c .n ∷ ns)
 held-after offer c ns w =
     subst (λ (u : Session). HoldsExactly u (sent-so (c .write) (c .group) .sent (c .form) (c .admitted)) (c .n ∷ ns))
@@ -70,7 +71,7 @@ held-after offer c ns w =
     (delivered (c .write) (c .group) (c .form) (c .admitted) (c .session) (c .ready) (c .n) ns w .exactly)
 
 -- the first packet begins a group
-first-holds : (offer : Build session.offer) (c : Taken3) → isNothing holdingShape (offerThrough offer (c .group) (c .session) (c .n) .session .group) ≡ false
+first-holds : (offer : Build session.offer) (c : Case3) → isNothing holdingShape (offerThrough offer (c .group) (c .session) (c .n) .session .group) ≡ false
 unfolding offerAllThrough
 first-holds offer c = some-held (voiceFor (c .form)) _ (held-after offer c [] (c .within, tt) .part .box)
 

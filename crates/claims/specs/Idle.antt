@@ -13,12 +13,12 @@ use Rattle.form.specs.Agreed.{voiceFor}
 use Rattle.holding.specs.Group.{isNothing}
 use Rattle.pouring.specs.Pouring.{inTime}
 use Rattle.session.specs.declared.Session.{Session}
-use Rattle.session.specs.declared.Taken.{Taken}
-use Rattle.session.specs.declared.Taken.the-variants.{Accepted, Refused}
+use Rattle.session.specs.declared.Taken.the-variants.{Accepted}
 use Rattle.claims.specs.Call.{Build}
 use Rattle.claims.specs.Calls.Packet as packet
 use Rattle.claims.specs.Calls.Session as session
 use Rattle.claims.specs.Calls.Landing as landing
+use Rattle.claims.specs.Refusals.{RefusedOffer}
 use Rattle.claims.specs.Sessions.{lostBefore, bodyOctets}
 use Rattle.claims.specs.Offering.{Ready}
 use Rattle.claims.specs.Sending.{AdmitsIn}
@@ -32,8 +32,8 @@ pub record Buildable : Type 0 where
   pub host-offer : Build landing.lvSessionOffer
   pub host-pour : Build landing.lvSessionPour
 
--- what demand 3 takes: a group that was written, a session that is ready for it, in a form that admits it, and one of its packets
-pub record Taken3 : Type 0 where
+-- a case of demand 3: a group that was written, a session that is ready for it, in a form that admits it, and one of its packets
+pub record Case3 : Type 0 where
   pub write : Build packet.write
   pub group : WrittenGroup write
   pub form : Form
@@ -43,15 +43,10 @@ pub record Taken3 : Type 0 where
   pub n : ℕ
   pub within : n ≤ group .numbers .l
 
--- an answer that is a refusal
-abbrev pub IsRefused : Taken → Type 0
-IsRefused (Accepted lost) = ⊥
-IsRefused (Refused r) = Unit {0}
-
 -- "One that refuses everything: shut out .. by demand 3, where a written packet is accepted."
 unfoldable pub RefusesEverything : Type 0
 RefusesEverything =
-    (offer : Build session.offer) → ((given : session.offer .Given) → IsRefused (offer .run given tt .0 .answer)) → Taken3 → ⊥
+    (offer : Build session.offer) → ((given : session.offer .Given) → RefusedOffer (offer .run given tt .0 .answer)) → Case3 → ⊥
 
 -- "One that pours erasures always: demand 3, original frames where offered."
 unfoldable pub PoursErasures : Type 0
@@ -59,24 +54,24 @@ PoursErasures =
     (offer : Build session.offer) (pour : Build session.pour) →
     ((s : Session) (out : List ℕ) (k : ℕ) → pour .run s (record { out = out }) .0 .answer ≡ Octets k →
     take k (pour .run s (record { out = out }) .1 .out) ≡ replicate k erasure) →
-    Taken3 → ⊥
+    Case3 → ⊥
 
 -- "One that stores nothing on offering: the holding after it is fixed."
 unfoldable pub StoresNothing : Type 0
 StoresNothing =
-    (offer : Build session.offer) → ((given : session.offer .Given) → offer .run given tt .0 .session ≡ given .0) → Taken3 → ⊥
+    (offer : Build session.offer) → ((given : session.offer .Given) → offer .run given tt .0 .session ≡ given .0) → Case3 → ⊥
 
 -- "One that takes the first packet and only nods at later ones: demand 3 with two packets."
 unfoldable pub NodsAtLater : Type 0
 NodsAtLater =
     (offer : Build session.offer) →
     ((given : session.offer .Given) → isNothing holdingShape (given .0 .group) ≡ false → offer .run given tt .0 .session ≡ given .0) →
-    (c : Taken3) (k : ℕ) → k ≤ c .group .numbers .l → (k ≡ c .n → ⊥) → ⊥
+    (c : Case3) (k : ℕ) → k ≤ c .group .numbers .l → (k ≡ c .n → ⊥) → ⊥
 
 -- "One that reports invented lost-frame or octet counts: both counts are fixed by formula."
 unfoldable pub InventsLostFrames : Type 0
 InventsLostFrames =
-    (offer : Build session.offer) (c : Taken3) (k : ℕ) → offerThrough offer (c .group) (c .session) (c .n) .answer ≡ Accepted k →
+    (offer : Build session.offer) (c : Case3) (k : ℕ) → offerThrough offer (c .group) (c .session) (c .n) .answer ≡ Accepted k →
     (k ≡ lostBefore holdingShape (c .session) (c .group .numbers) → ⊥) → ⊥
 
 -- the same for octet counts

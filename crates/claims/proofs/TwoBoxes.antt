@@ -80,16 +80,16 @@ pub pour-and-drop-alike : PourAndDropAlike
 unfolding PourAndDropAlike writtenOf asPoured answerOf afterPour notDropped
 pour-and-drop-alike v s = go (both v s)
   where
-    into : (w out : List ℕ) (b : Bool) → (cond b (written.Octets (length w)) (written.Refused NoRoom) ≡ written.Refused NoRoom → ⊥)
+    into : (w : List ℕ) (b : Bool) → (cond b (written.Octets (length w)) (written.Refused NoRoom) ≡ written.Refused NoRoom → ⊥)
         → _≡_ {A = Dropped} (record { answer = answer.Done; session = ended (v .shape) s })
         (asPoured v s (cond b (written.Octets (length w)) (written.Refused NoRoom)))
-    into w out true k = refl
-    into w out false k = absurd (k refl)
+    into w true k = refl
+    into w false k = absurd (k refl)
 
     go : Both v s → Alike v s
     go (done w p q) =
         record {
-          same = λ out. rw (p, q) (into w out (leb (length w) (length out)));
+          same = λ out. rw (p, q) (into w (leb (length w) (length out)));
           refused = λ r e. let z : answer.Done ≡ answer.Refused r = sym (ap (λ (x : Dropped). x .answer) q) ∙ e in apart (cc);
         }
     go (neither p q) =

@@ -7,7 +7,7 @@ use Rattle.answers.specs.Outputs.{Made, writtenOf, outAfter}
 use Rattle.entries.specs.Kind.{kindOf}
 use Rattle.form.specs.Agreed.{vocoderOf, voiceFor}
 use Rattle.frame.specs.Shape.{holdingShape}
-use Rattle.packet.specs.Writing.{packetMade}
+use Rattle.packet.specs.Writing.{packetMade, headerFreeMade}
 use Rattle.session.specs.Session.{offered, pourMade, afterPour}
 use Rattle.session.specs.declared.Session.{Session}
 use Rattle.lending.specs.Calls.{offerAnswer, offerOctets, pourOf, pourOctets}
@@ -43,6 +43,25 @@ write-built = record {
   where
     made : packet.write .Given → Made
     made g = packetMade (kindOf (vocoderOf (g .0))) (g .0) (g .1 .0) (g .1 .1 .0) (g .1 .1 .1 .0) (g .1 .1 .1 .1 .0) (g .1 .1 .1 .1 .1)
+
+header-free-built : Build packet.writeHeaderFree
+header-free-built = record {
+  run = λ g o. (writtenOf (made g) (o .out), record { out = outAfter (made g) (o .out) });
+  meets = λ g o. record {
+    κs = ([], ([], tt));
+    passed = (g .0, (lies (g .1), (lies (o .out), tt)));
+    returned = writtenOf (made g) (o .out);
+    ended = (g .0, (lies (g .1), (lies (outAfter (made g) (o .out)), tt)));
+    allowed = record { answer = refl; output = refl };
+    is-given = refl;
+    is-lent = refl;
+    is-answer = refl;
+    is-left = refl;
+  };
+}
+  where
+    made : packet.writeHeaderFree .Given → Made
+    made g = headerFreeMade (kindOf (vocoderOf (g .0))) (g .0) (g .1)
 
 offer-built : Build session.offer
 offer-built = record {
@@ -131,4 +150,10 @@ host-pour-built = record {
     after o = pourOctets (o .session) (writtenOf (pourOf (sessionVoice (o .session)) (o .session)) (o .out))
 
 pub buildable : Buildable
-buildable = record { write = write-built; offer = offer-built; pour = pour-built; host-offer = host-offer-built; host-pour = host-pour-built }
+buildable = record {
+  writers = record { write = write-built; write-header-free = header-free-built };
+  offer = offer-built;
+  pour = pour-built;
+  host-offer = host-offer-built;
+  host-pour = host-pour-built;
+}

@@ -8,7 +8,7 @@ use Rattle.entries.specs.Kind.{kindOf}
 use Rattle.form.specs.declared.Form.{Form}
 use Rattle.form.specs.Agreed.{vocoderOf, voiceFor}
 use Rattle.frame.specs.Shape.{holdingShape}
-use Rattle.packet.specs.Writing.{packetMade}
+use Rattle.packet.specs.Writing.{packetMade, headerFreeMade}
 use Rattle.session.specs.Session.{offered, pourMade, afterPour}
 use Rattle.session.specs.declared.Session.{Session}
 use Rattle.session.specs.declared.Offered.{Offered}
@@ -39,6 +39,12 @@ pub writes-so : (build : Build packet.write) (form : Form) (l n b d : ℕ) (es o
 writes-so build form l n b d es out =
     by-name (λ g o x y. Writes (packetMade (kindOf (vocoderOf (g .0))) (g .0) (g .1 .0) (g .1 .1 .0) (g .1 .1 .1 .0) (g .1 .1 .1 .1 .0) (g .1 .1 .1 .1 .1)) (o .out) x (y .out))
     (λ κs a x e p. p) (build .meets (form, (l, (n, (b, (d, es))))) (record { out = out }))
+
+pub writes-header-free-so : (build : Build packet.writeHeaderFree) (form : Form) (es out : List ℕ) →
+    let r = build .run (form, es) (record { out = out }) in
+    Writes (headerFreeMade (kindOf (vocoderOf form)) form es) out (r .0) (r .1 .out)
+writes-header-free-so build form es out =
+    by-name (λ g o x y. Writes (headerFreeMade (kindOf (vocoderOf (g .0))) (g .0) (g .1)) (o .out) x (y .out)) (λ κs a x e p. p) (build .meets (form, es) (record { out = out }))
 
 pub offer-told : {s : Session} {source sequence timestamp : ℕ} {p : List ℕ} {x : Offered} → Outcome session.offer (s, (source, (sequence, (timestamp, p)))) tt x tt →
     x ≡ offered (voiceFor (s .form)) s source sequence timestamp p

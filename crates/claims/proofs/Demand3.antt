@@ -1,5 +1,5 @@
 -- Demand 3, from end to end. Assumes nothing.
-use Prim.Native.Nat.{ℕ, _+_, _*_, _≤_, zero-le}
+use Prim.Native.Nat.{ℕ, _+_, _*_, _≤_, _<_, zero-le}
 use mathlib.Core.Path.{_≡_, refl, sym, ap, ap₂, subst, _∙_}
 use mathlib.Core.List.{List, [], _∷_, _++_}
 use mathlib.Core.Bool.{Bool, true, false, cond}
@@ -16,10 +16,10 @@ use Rattle.entries.specs.Entries.{entriesOf}
 use Rattle.entries.specs.Kind.{kindOf}
 use Rattle.form.specs.Agreed.{vocoderOf, voiceFor}
 use Rattle.form.specs.declared.Form.{Form}
-use Rattle.form.specs.declared.Form.the-variants.{Interleaved}
+use Rattle.form.specs.declared.Form.the-variants.{HeaderFree, Interleaved}
 use Rattle.frame.specs.FrameTable.{Frame}
 use Rattle.frame.specs.Shape.{Voice}
-use Rattle.packet.specs.Writing.{packetMade}
+use Rattle.packet.specs.Writing.{packetMade, headerFreeMade}
 use Rattle.pouring.specs.Pouring.{inTime}
 use Rattle.numbers.specs.declared.GroupNumbers.{GroupNumbers}
 use Rattle.session.specs.Session.{refuse, accept, withGroup, begins, arrival, offered}
@@ -29,20 +29,20 @@ use Rattle.session.specs.declared.Offered.{Offered}
 use Rattle.session.proofs.Ends.{Placed, Ends, offer-ends}
 use Rattle.session.proofs.Ends as ends
 use Rattle.claims.specs.Call.{Build}
-use Rattle.claims.specs.Calls.Packet as packet
 use Rattle.claims.specs.Calls.Session as session
 use Rattle.claims.specs.Packets.{KindsPass}
 use Rattle.claims.specs.Sessions.{lostBefore, bodyOctets}
 use Rattle.claims.specs.Offering.{Sent, sentNumbers, numbered, stamped, offerOne, offerAll, AllAccepted, Ready, Within, PouredPlaces, Delivered, OffersDeliver}
-use Rattle.claims.specs.Sending.{AdmitsIn, SentSo, WriterSends, WriterSendsNoErasure, TablesNeverSendErasures}
+use Rattle.claims.specs.Sending.{SentSo, WriterSends, HeaderFreeWriterSends, WriterSendsNoErasure, HeaderFreeSendsNoErasure, TablesNeverSendErasures}
 use Rattle.claims.specs.Missing.{OneMissing, NoErasure, Spread, OneMissingPacket}
-use Rattle.claims.specs.Demand3.{WrittenGroup, originals, offerThrough, offerAllThrough, AcceptedThrough, Restored, PouredThrough, Demand3}
+use Rattle.claims.specs.Demand3.{Writers, ByWriter, interleaved, headerFree, formsOf, WrittenGroup, offerThrough, offerAllThrough, AcceptedThrough, Restored}
+use Rattle.claims.specs.Demand3.{PouredThrough, Demand3}
 use Rattle.claims.proofs.Joinings.{voices-have-room}
 use Rattle.claims.proofs.PacketsBack.{kinds-pass}
 use Rattle.claims.proofs.Offering.{offers-deliver}
-use Rattle.claims.proofs.Sending.{writer-sends, writer-sends-no-erasure, tables-never-send-erasures}
+use Rattle.claims.proofs.Sending.{writer-sends, header-free-writer-sends, writer-sends-no-erasure, header-free-sends-no-erasure, tables-never-send-erasures}
 use Rattle.claims.proofs.Missing.{one-missing-packet}
-use Rattle.claims.proofs.Builds.{writes-so, offers-so, pours-so}
+use Rattle.claims.proofs.Builds.{writes-so, writes-header-free-so, offers-so, pours-so}
 
 -- ---- what a writer wrote is what was to be written
 pub wrote-made : (made : Made) (out : List ℕ) (r : Written) (after w : List ℕ) → Writes made out r after → r ≡ written.Octets (length w) → take (length w) after ≡ w → made ≡ octets w
@@ -85,7 +85,7 @@ keeps-form v s source sequence timestamp p = go _ (offer-ends v s source sequenc
     go o (ends.places i j l n d fs q x) = placed-form v s (arrival (v .shape) sequence timestamp l n fs) o x
 
 -- ---- packets that were written are those that were sent
-module _ {write : Build packet.write} (g : WrittenGroup write) (form : Form) (t : Sent (voiceFor form) form)
+module _ {writers : Writers} (g : WrittenGroup writers) (form : Form) (t : Sent (voiceFor form) form)
     (same-source : t .group .source ≡ g .source) (same-numbers : sentNumbers (t .group) ≡ g .numbers) (same-payload : (n : ℕ) → t .payload n ≡ g .payload n) where
   pub offered-so : (s : Session) → s .form ≡ form → (n : ℕ)
       → offered (voiceFor (s .form)) s (g .source) (numbered (g .numbers) n) (stamped (g .numbers) n) (g .payload n) ≡ offerOne s t n
@@ -114,27 +114,62 @@ places-as : {fs gs hs : List Frame} {l m b c : ℕ} {ns : List ℕ} → gs ≡ h
 places-as {fs} {gs} {hs} {l} {m} {b} {c} {ns} p q r x =
     subst (λ (i : List Frame). PouredPlaces fs i m c ns) p (subst (λ (i : ℕ). PouredPlaces fs gs i c ns) q (subst (λ (i : ℕ). PouredPlaces fs gs l i ns) r x))
 
+-- ---- what was written was sent
+module _ (writers : Writers) where
+  sent-by : (source : ℕ) (g : GroupNumbers) (fs : List Frame) (payload : ℕ → List ℕ) → g .sequence < 65536 → g .timestamp < 4294967296 →
+      (x : ByWriter writers g fs payload) → SentSo (voiceFor HeaderFree) (formsOf x) source g fs payload
+  unfolding WriterSends HeaderFreeWriterSends KindsPass formsOf
+  sent-by source g fs payload hs ht (interleaved limits entries d buffer e w) =
+      let made : (n : ℕ) → n ≤ g .l → packetMade (kindOf (vocoderOf (Interleaved limits))) (Interleaved limits) (g .l) n (g .b) (d n) entries ≡ octets (payload n)
+      = λ n h. wrote-made _ (buffer n) _ _ (payload n) (writes-so (writers .write) (Interleaved limits) (g .l) n (g .b) (d n) entries (buffer n)) (w n h .count) (w n h .front) in
+      let so = writer-sends (kindOf (vocoderOf (Interleaved limits))) (kinds-pass (vocoderOf (Interleaved limits)) .narrows) limits g entries d payload made source hs ht in
+      record {
+        group = so .group;
+        its-source = so .its-source;
+        its-numbers = so .its-numbers;
+        its-frames = so .its-frames ∙ e;
+        sent = so .sent;
+        same-group = so .same-group;
+        its-payload = so .its-payload;
+      }
+  sent-by source g fs payload hs ht (headerFree entries buffer w e l b x p) =
+      let made : headerFreeMade (kindOf (vocoderOf HeaderFree)) HeaderFree entries ≡ octets w
+      = wrote-made _ buffer _ _ w (writes-header-free-so (writers .write-header-free) HeaderFree entries buffer) (x .count) (x .front) in
+      let so = header-free-writer-sends (kindOf (vocoderOf HeaderFree)) (kinds-pass (vocoderOf HeaderFree) .tellsApart) entries w made source (g .sequence) (g .timestamp) hs ht in
+      record {
+        group = so .group;
+        its-source = so .its-source;
+        its-numbers = so .its-numbers ∙ numbers-as l b;
+        its-frames = so .its-frames ∙ e;
+        sent = so .sent;
+        same-group = so .same-group;
+        its-payload = λ form i n. so .its-payload form i n ∙ sym (p n);
+      }
+    where
+      numbers-as : {q t m c : ℕ} → m ≡ 0 → c ≡ 1 → _≡_ {A = GroupNumbers} (record { sequence = q; timestamp = t; l = 0; b = 1 }) (record { sequence = q; timestamp = t; l = m; b = c })
+      numbers-as i j = cc
+
+  -- none of its frames is an erasure
+  none-by : (g : GroupNumbers) (fs : List Frame) (payload : ℕ → List ℕ) → ByWriter writers g fs payload → NoErasure fs
+  unfolding NoErasure WriterSendsNoErasure HeaderFreeSendsNoErasure TablesNeverSendErasures
+  none-by g fs payload (interleaved limits entries d buffer e w) =
+      subst NoErasure e
+      (writer-sends-no-erasure (kindOf (vocoderOf (Interleaved limits))) (tables-never-send-erasures (vocoderOf (Interleaved limits))) limits (g .l) 0 (g .b) (d 0) entries (payload 0)
+      (wrote-made _ (buffer 0) _ _ (payload 0) (writes-so (writers .write) (Interleaved limits) (g .l) 0 (g .b) (d 0) entries (buffer 0)) (w 0 zero-le .count) (w 0 zero-le .front)))
+  none-by g fs payload (headerFree entries buffer w e l b x p) =
+      subst NoErasure e
+      (header-free-sends-no-erasure (kindOf (vocoderOf HeaderFree)) (tables-never-send-erasures (vocoderOf HeaderFree)) entries w
+      (wrote-made _ buffer _ _ w (writes-header-free-so (writers .write-header-free) HeaderFree entries buffer) (x .count) (x .front)))
+
 -- ---- the demand
-module _ (write : Build packet.write) (g : WrittenGroup write) where
-  made-so : (n : ℕ) → n ≤ g .numbers .l →
-      packetMade (kindOf (vocoderOf (Interleaved (g .limits)))) (Interleaved (g .limits)) (g .numbers .l) n (g .numbers .b) (g .d n) (g .entries) ≡ octets (g .payload n)
-  made-so n h =
-      wrote-made _ (g .buffer n) _ _ (g .payload n) (writes-so write (Interleaved (g .limits)) (g .numbers .l) n (g .numbers .b) (g .d n) (g .entries) (g .buffer n))
-      (g .wrote n h .count) (g .wrote n h .front)
+module _ (writers : Writers) (g : WrittenGroup writers) where
+  pub sent-so : SentSo (voiceFor HeaderFree) (formsOf (g .written)) (g .source) (g .numbers) (g .frames) (g .payload)
+  sent-so = sent-by writers (g .source) (g .numbers) (g .frames) (g .payload) (g .sequence-fits) (g .timestamp-fits) (g .written)
 
-  pub sent-so : SentSo (voiceFor (Interleaved (g .limits))) (AdmitsIn (g .numbers .l) (g .numbers .b)) (g .source) (g .numbers) (originals g) (g .payload)
-  unfolding WriterSends KindsPass
-  sent-so =
-      writer-sends (kindOf (vocoderOf (Interleaved (g .limits)))) (kinds-pass (vocoderOf (Interleaved (g .limits))) .narrows) (g .limits) (g .numbers) (g .entries) (g .d)
-      (g .payload) made-so (g .source) (g .sequence-fits) (g .timestamp-fits)
+  pub none-erased : NoErasure (g .frames)
+  none-erased = none-by writers (g .numbers) (g .frames) (g .payload) (g .written)
 
-  pub none-erased : NoErasure (originals g)
-  unfolding NoErasure WriterSendsNoErasure TablesNeverSendErasures
-  none-erased =
-      writer-sends-no-erasure (kindOf (vocoderOf (Interleaved (g .limits)))) (tables-never-send-erasures (vocoderOf (Interleaved (g .limits)))) (g .limits)
-      (g .numbers .l) 0 (g .numbers .b) (g .d 0) (g .entries) (g .payload 0) (made-so 0 zero-le)
-
-  module _ (form : Form) (i : AdmitsIn (g .numbers .l) (g .numbers .b) form) where
+  module _ (form : Form) (i : formsOf (g .written) form) where
     abbrev t : Sent (voiceFor form) form
     t = sent-so .sent form i
 
@@ -144,7 +179,7 @@ module _ (write : Build packet.write) (g : WrittenGroup write) where
     pub t-numbers : sentNumbers (t .group) ≡ g .numbers
     t-numbers = ap (λ k. sentNumbers k) (sent-so .same-group form i) ∙ sent-so .its-numbers
 
-    pub t-frames : t .group .frames ≡ originals g
+    pub t-frames : t .group .frames ≡ g .frames
     t-frames = ap (λ k. k .frames) (sent-so .same-group form i) ∙ sent-so .its-frames
 
     pub t-l : t .group .l ≡ g .numbers .l
@@ -189,19 +224,19 @@ module _ (write : Build packet.write) (g : WrittenGroup write) where
           }
 
 -- every offer is accepted, and the session after them is the one that was offered what was sent
-pub accepts : (write : Build packet.write) (offer : Build session.offer) (g : WrittenGroup write) (form : Form) (i : AdmitsIn (g .numbers .l) (g .numbers .b) form)
+pub accepts : (writers : Writers) (offer : Build session.offer) (g : WrittenGroup writers) (form : Form) (i : formsOf (g .written) form)
     (s : Session) → Ready (voiceFor form) form s (g .source) (g .numbers) → (n : ℕ) (ns : List ℕ) → Within (g .numbers .l) (n ∷ ns) →
     AcceptedThrough offer g s (lostBefore (voiceFor form .shape) s (g .numbers)) (n ∷ ns)
-    × (offerAllThrough offer g s (n ∷ ns) ≡ offerAll s (sent-so write g .sent form i) (n ∷ ns))
-accepts write offer g form i s y n ns w =
-    let t = sent-so write g .sent form i in
-    let d = delivered write g form i s y n ns w in
+    × (offerAllThrough offer g s (n ∷ ns) ≡ offerAll s (sent-so writers g .sent form i) (n ∷ ns))
+accepts writers offer g form i s y n ns w =
+    let t = sent-so writers g .sent form i in
+    let d = delivered writers g form i s y n ns w in
     let lost = lostBefore (voiceFor form .shape) s (sentNumbers (t .group)) in
-    let x = through g form t (t-source write g form i) (t-numbers write g form i) (sent-so write g .its-payload form i) offer s (y .in-form) lost (n ∷ ns) (d .accepted) in
-    (subst (λ (k : GroupNumbers). AcceptedThrough offer g s (lostBefore (voiceFor form .shape) s k) (n ∷ ns)) (t-numbers write g form i) (x .0), x .1)
+    let x = through g form t (t-source writers g form i) (t-numbers writers g form i) (sent-so writers g .its-payload form i) offer s (y .in-form) lost (n ∷ ns) (d .accepted) in
+    (subst (λ (k : GroupNumbers). AcceptedThrough offer g s (lostBefore (voiceFor form .shape) s k) (n ∷ ns)) (t-numbers writers g form i) (x .0), x .1)
 
 pub demand-3 : Demand3
 unfolding Demand3
-demand-3 write offer pour g form i s y n ns w =
-    let x = accepts write offer g form i s y n ns w in
-    (x .0, subst (λ (u : Session). PouredThrough pour g u (n ∷ ns)) (sym (x .1)) (poured-through write g form i s y n ns w pour))
+demand-3 writers offer pour g form i s y n ns w =
+    let x = accepts writers offer g form i s y n ns w in
+    (x .0, subst (λ (u : Session). PouredThrough pour g u (n ∷ ns)) (sym (x .1)) (poured-through writers g form i s y n ns w pour))

@@ -26,13 +26,12 @@ use Rattle.lending.specs.Calls.{offerAnswer, offerOctets, pourOf, layTaken}
 use Rattle.landing.specs.Host.{CountTold, countTold, takenAfter, WriteTold, writeTold, writeAfter, writtenAfter, withOutput}
 use Rattle.claims.specs.Call.{Build}
 use Rattle.claims.specs.Calls.Lent.{LentSessionLost}
-use Rattle.claims.specs.Calls.Packet as packet
 use Rattle.claims.specs.Calls.Landing as landing
 use Rattle.claims.specs.Packets.{KindsPass}
 use Rattle.claims.specs.Lent.{SessionReadsBack, NoneRemembered}
 use Rattle.claims.specs.Sessions.{lostBefore}
 use Rattle.claims.specs.Offering.{Sent, sentNumbers, numbered, stamped, offerOne, offerAll, Ready, Within, HoldsExactly}
-use Rattle.claims.specs.Demand3.{WrittenGroup, hostOffer, hostOfferAll, HostAccepted, HostDemand3}
+use Rattle.claims.specs.Demand3.{Writers, WrittenGroup, hostOffer, hostOfferAll, HostAccepted, HostDemand3}
 use Rattle.claims.proofs.Joinings.{voices-have-room}
 use Rattle.claims.proofs.PacketsBack.{kinds-pass}
 use Rattle.claims.proofs.Marks.{box-marks}
@@ -49,7 +48,7 @@ laid-back form s r x o =
     session-reads-back s r (x .shaped) (box-marks (voiceFor form) (kinds-pass (vocoderOf form) .narrows) (voices-have-room .of-sessions form .erasing) (s .group) x) o
 
 -- ---- packets offered by a host are those that were sent
-module _ {write : Build packet.write} (offer : Build landing.lvSessionOffer) (g : WrittenGroup write) (form : Form) (t : Sent (voiceFor form) form)
+module _ {writers : Writers} (offer : Build landing.lvSessionOffer) (g : WrittenGroup writers) (form : Form) (t : Sent (voiceFor form) form)
     (same-source : t .group .source ≡ g .source) (same-numbers : sentNumbers (t .group) ≡ g .numbers) (same-payload : (n : ℕ) → t .payload n ≡ g .payload n) where
   -- an accepted offer
   record Taking (o : LentSessionLost) (n lost : ℕ) : Type 0 where
@@ -111,20 +110,20 @@ written-told w out k h =
 
 pub host-demand-3 : HostDemand3
 unfolding HostDemand3 pourOf
-host-demand-3 write offer pour g form i o y n ns w =
+host-demand-3 writers offer pour g form i o y n ns w =
     let s = sessionIn (o .session) in
-    let t = sent-so write g .sent form i in
-    let ready = subst (λ (k : GroupNumbers). Ready (voiceFor form) form s (t .group .source) k) (sym (t-numbers write g form i))
-    (subst (λ (k : ℕ). Ready (voiceFor form) form s k (g .numbers)) (sym (t-source write g form i)) y) in
-    let x = from-ready offer g form t (t-source write g form i) (t-numbers write g form i) (sent-so write g .its-payload form i) o ready n ns
-    (subst (λ (k : ℕ). Within k (n ∷ ns)) (sym (t-l write g form i)) w) in
+    let t = sent-so writers g .sent form i in
+    let ready = subst (λ (k : GroupNumbers). Ready (voiceFor form) form s (t .group .source) k) (sym (t-numbers writers g form i))
+    (subst (λ (k : ℕ). Ready (voiceFor form) form s k (g .numbers)) (sym (t-source writers g form i)) y) in
+    let x = from-ready offer g form t (t-source writers g form i) (t-numbers writers g form i) (sent-so writers g .its-payload form i) o ready n ns
+    (subst (λ (k : ℕ). Within k (n ∷ ns)) (sym (t-l writers g form i)) w) in
     let fs = inTime (voiceFor form) (offerAll s t (n ∷ ns) .group) in
     let e : pourMade (voiceFor (sessionIn (hostOfferAll offer g o (n ∷ ns) .session) .form)) (sessionIn (hostOfferAll offer g o (n ∷ ns) .session)) ≡ octets (entriesOf fs)
-    = ap (λ (u : Session). pourMade (voiceFor (u .form)) u) (x .1) ∙ delivered write g form i s y n ns w .poured in (
-      subst (λ (k : GroupNumbers). HostAccepted offer g o (lostBefore (voiceFor form .shape) s k) (n ∷ ns)) (t-numbers write g form i) (x .0),
+    = ap (λ (u : Session). pourMade (voiceFor (u .form)) u) (x .1) ∙ delivered writers g form i s y n ns w .poured in (
+      subst (λ (k : GroupNumbers). HostAccepted offer g o (lostBefore (voiceFor form .shape) s k) (n ∷ ns)) (t-numbers writers g form i) (x .0),
       record {
         frames = fs;
-        restored = restores write g form i s y n ns w;
+        restored = restores writers g form i s y n ns w;
         told = λ out k h.
             let c = host-pours-so pour (record { session = hostOfferAll offer g o (n ∷ ns) .session; out = out; written = k })
             ∙ ap (λ (m : Made). writeAfter m k out) e ∙ written-told (entriesOf fs) out k h in

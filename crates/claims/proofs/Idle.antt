@@ -33,7 +33,7 @@ use Rattle.claims.specs.Refusals.{RefusedOffer}
 use Rattle.claims.specs.Sessions.{lostBefore, OctetCountByFormula}
 use Rattle.claims.specs.Offering.{Within, among, HoldsExactly, sentPacket}
 use Rattle.claims.specs.Missing.{isErasure, NoErasure}
-use Rattle.claims.specs.Demand3.{originals, offerThrough, offerAllThrough, AcceptedThrough, Demand3}
+use Rattle.claims.specs.Demand3.{offerThrough, offerAllThrough, AcceptedThrough, Demand3}
 use Rattle.claims.specs.Idle.{Case3, RefusesEverything, PoursErasures, StoresNothing, NodsAtLater, InventsLostFrames, InventsOctetCounts}
 use Rattle.claims.proofs.Sessions.{octet-count-by-formula}
 use Rattle.claims.proofs.Offering.{some-held}
@@ -43,7 +43,7 @@ use Rattle.claims.proofs.Builds.{pours-so}
 -- ---- the first packet is accepted, and then held
 first-told : (offer : Build session.offer) (c : Case3) → offerThrough offer (c .group) (c .session) (c .n) .answer ≡ Accepted (lostBefore holdingShape (c .session) (c .group .numbers))
 unfolding AcceptedThrough
-first-told offer c = accepts (c .write) offer (c .group) (c .form) (c .admitted) (c .session) (c .ready) (c .n) [] (c .within, tt) .0 .0
+first-told offer c = accepts (c .writers) offer (c .group) (c .form) (c .admitted) (c .session) (c .ready) (c .n) [] (c .within, tt) .0 .0
 
 pub refuses-everything : RefusesEverything
 unfolding RefusesEverything
@@ -64,11 +64,11 @@ invents-lost-frames offer c k e d =
 
 -- what is held after these packets
 held-after : (offer : Build session.offer) (c : Case3) (ns : List ℕ) → Within (c .group .numbers .l) (c .n ∷ ns) →
-    HoldsExactly (offerAllThrough offer (c .group) (c .session) (c .n ∷ ns)) (sent-so (c .write) (c .group) .sent (c .form) (c .admitted)) (c .n ∷ ns)
+    HoldsExactly (offerAllThrough offer (c .group) (c .session) (c .n ∷ ns)) (sent-so (c .writers) (c .group) .sent (c .form) (c .admitted)) (c .n ∷ ns)
 held-after offer c ns w =
-    subst (λ (u : Session). HoldsExactly u (sent-so (c .write) (c .group) .sent (c .form) (c .admitted)) (c .n ∷ ns))
-    (sym (accepts (c .write) offer (c .group) (c .form) (c .admitted) (c .session) (c .ready) (c .n) ns w .1))
-    (delivered (c .write) (c .group) (c .form) (c .admitted) (c .session) (c .ready) (c .n) ns w .exactly)
+    subst (λ (u : Session). HoldsExactly u (sent-so (c .writers) (c .group) .sent (c .form) (c .admitted)) (c .n ∷ ns))
+    (sym (accepts (c .writers) offer (c .group) (c .form) (c .admitted) (c .session) (c .ready) (c .n) ns w .1))
+    (delivered (c .writers) (c .group) (c .form) (c .admitted) (c .session) (c .ready) (c .n) ns w .exactly)
 
 -- the first packet begins a group
 first-holds : (offer : Build session.offer) (c : Case3) → isNothing holdingShape (offerThrough offer (c .group) (c .session) (c .n) .session .group) ≡ false
@@ -85,10 +85,10 @@ pub nods-at-later : NodsAtLater
 unfolding NodsAtLater offerAllThrough
 nods-at-later offer h c k i d =
     let v = voiceFor (c .form) in
-    let g = sent-so (c .write) (c .group) .sent (c .form) (c .admitted) .group in
+    let g = sent-so (c .writers) (c .group) .sent (c .form) (c .admitted) .group in
     let first = offerThrough offer (c .group) (c .session) (c .n) .session in
     let both = offerThrough offer (c .group) first k .session in
-    let low : k < packetsOf holdingShape = omega (arith, t-l (c .write) (c .group) (c .form) (c .admitted), g .low) in
+    let low : k < packetsOf holdingShape = omega (arith, t-l (c .writers) (c .group) (c .form) (c .admitted), g .low) in
     let p : knownOf v (both .group) k ≡ sentPacket g k = held-after offer c (k ∷ []) (c .within, (i, tt)) .part .knows k low ∙ rw (ne-eqb k (c .n) d, eq-eqb k k refl) in
     let q : knownOf v (first .group) k ≡ unheard = held-after offer c [] (c .within, tt) .part .knows k low ∙ rw (ne-eqb k (c .n) d) in
     let e : both .group ≡ first .group = ap (λ (s : Session). s .group) (h _ (first-holds offer c)) in
@@ -114,10 +114,10 @@ pub pours-erasures : PoursErasures
 unfolding PoursErasures Demand3 NoErasure
 pours-erasures offer pour h c =
     let g = c .group in
-    let t = sent-so (c .write) g .sent (c .form) (c .admitted) .group in
-    let el = t-l (c .write) g (c .form) (c .admitted) in
-    let eb = t-b (c .write) g (c .form) (c .admitted) in
-    let p = demand-3 (c .write) offer pour g (c .form) (c .admitted) (c .session) (c .ready) (c .n) [] (c .within, tt) .1 in
+    let t = sent-so (c .writers) g .sent (c .form) (c .admitted) .group in
+    let el = t-l (c .writers) g (c .form) (c .admitted) in
+    let eb = t-b (c .writers) g (c .form) (c .admitted) in
+    let p = demand-3 (c .writers) offer pour g (c .form) (c .admitted) (c .session) (c .ready) (c .n) [] (c .within, tt) .1 in
     let w = entriesOf (p .frames) in
     let out : List ℕ = replicate (length w) 0 in
     let room : length w ≤ length out = omega (arith, length-replicate {A = ℕ} (length w) 0) in
@@ -127,9 +127,9 @@ pours-erasures offer pour h c =
     let place = place-in (g .numbers .l) (c .n) (g .numbers .b) 0 (c .within) some in
     let here : among (c .n) (c .n ∷ []) ≡ true = first-among (eqb (c .n) (c .n)) (eq-eqb (c .n) (c .n) refl) in
     let a : isErasure (frameAt (p .frames) (placeOf (g .numbers .l) (c .n) 0)) ≡ true = all-erased (p .frames) (length w) _ poured (omega (arith, place, p .restored .places .count)) in
-    let many : length (originals g) ≡ (g .numbers .l + 1) * g .numbers .b =
-    ap length (sym (t-frames (c .write) g (c .form) (c .admitted))) ∙ t .many ∙ ap₂ (λ (l b : ℕ). (l + 1) * b) el eb in
-    let z : true ≡ false = sym a ∙ ap isErasure (p .restored .places .original (c .n) 0 (c .within) some here) ∙ none-erased (c .write) g _ (omega (arith, place, many)) in
+    let many : length (g .frames) ≡ (g .numbers .l + 1) * g .numbers .b =
+    ap length (sym (t-frames (c .writers) g (c .form) (c .admitted))) ∙ t .many ∙ ap₂ (λ (l b : ℕ). (l + 1) * b) el eb in
+    let z : true ≡ false = sym a ∙ ap isErasure (p .restored .places .original (c .n) 0 (c .within) some here) ∙ none-erased (c .writers) g _ (omega (arith, place, many)) in
     apart (cc)
   where
     first-among : (b : Bool) → b ≡ true → b || false ≡ true

@@ -22,7 +22,7 @@ use Rattle.claims.proofs.Demand3.{demand-3}
 use Rattle.claims.proofs.Opened.{opened-is-ready}
 use Rattle.claims.proofs.HostDemand3.{host-demand-3}
 use Rattle.claims.proofs.Offering.{fresh-is-ready, offers-deliver, copied-out}
-use Rattle.claims.proofs.Sending.{writer-sends, header-free-writer-sends, writer-sends-no-erasure, tables-never-send-erasures}
+use Rattle.claims.proofs.Sending.{writer-sends, header-free-writer-sends, writer-sends-no-erasure, header-free-sends-no-erasure, tables-never-send-erasures}
 use Rattle.claims.proofs.Missing.{one-missing-packet}
 use Rattle.claims.proofs.Joinings.{every-order-and-grouping, every-permutation, with-itself, difference-ends-in-14, else-they-join}
 use Rattle.claims.proofs.Joinings.{nothing-lost, nothing-invented, equal-knowledge, every-place-in-time, voices-have-room}
@@ -86,6 +86,7 @@ promised = record {
   every-place-in-time = every-place-in-time;
   one-missing-packet = one-missing-packet;
   writer-sends-no-erasure = writer-sends-no-erasure;
+  header-free-sends-no-erasure = header-free-sends-no-erasure;
   tables-never-send-erasures = tables-never-send-erasures;
   every-order-and-grouping = every-order-and-grouping;
   every-permutation = every-permutation;

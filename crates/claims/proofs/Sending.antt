@@ -5,13 +5,13 @@ use mathlib.Core.List.{List, [], _∷_}
 use mathlib.Core.Bool.{Bool, true, false, not, _&&_}
 use native.Mathlib.Omega.{arith}
 use lib.ListN.{length, getD}
-use lib.Dec.{T, eqb}
+use lib.Dec.{T, eqb, ltb}
 use borrow.Author.Tests.{eqb-true}
 use Rattle.octets.proofs.Logic.{apart, both-true}
 use Rattle.frame.specs.declared.Vocoder.the-variants.{Evrc}
 use Rattle.frame.proofs.PlacesLaws.{every-at, every-so}
-use Rattle.frame.specs.FrameTable.{rowsOf, FrameTable, Frame, rowOf, erasure, lowBits, sendable, sendableAs, AllListed}
-use Rattle.frame.specs.Places.{upTo}
+use Rattle.frame.specs.FrameTable.{rowsOf, FrameTable, Frame, rowOf, erasure, lowBits, sendable, sendableAs, AllListed, Every}
+use Rattle.frame.specs.Places.{upTo, frameAt}
 use Rattle.answers.specs.Outputs.{octets}
 use Rattle.form.specs.declared.Limits.{Limits}
 use Rattle.form.specs.declared.Form.{Form}
@@ -33,7 +33,7 @@ use Rattle.packet.specs.Writing.{headerFreeMade, oneBody, packetMade}
 use Rattle.packet.proofs.Packing.{length-packet}
 use Rattle.claims.specs.Packets.{narrow, tells, Admits, HeaderFreeReadAfterWrite}
 use Rattle.claims.specs.Offering.{SentGroup, Sent}
-use Rattle.claims.specs.Sending.{AdmitsIn, WriterSends, HeaderFreeWriterSends, sentOf, neverSent, WriterSendsNoErasure}
+use Rattle.claims.specs.Sending.{AdmitsIn, WriterSends, HeaderFreeWriterSends, sentOf, neverSent, WriterSendsNoErasure, HeaderFreeSendsNoErasure}
 use Rattle.claims.specs.Sending.{TablesNeverSendErasures}
 use Rattle.claims.specs.Missing.{isErasure}
 use Rattle.claims.proofs.Packets.{made-of, packed-back}
@@ -123,9 +123,10 @@ record One (kind : Kind) (es : List ℕ) : Type 0 where
   frame : Frame
   is : groupIn kind es ≡ frame ∷ []
   listed : AllListed (kind .table) (groupIn kind es)
+  may-be-sent : sendable (kind .table) (frame .type) (frame .body) ≡ true
 
 one-frame : (kind : Kind) (es w : List ℕ) → headerFreeMade kind HeaderFree es ≡ octets w → One kind es
-unfolding headerFreeMade oneBody framesIn
+unfolding headerFreeMade oneBody framesIn allowed
 one-frame kind es w e = go (entriesIn kind rule.HeaderFree es) refl e
   where
     go : (u : EntriesRead) → entriesIn kind rule.HeaderFree es ≡ u → oneBody u ≡ octets w → One kind es
@@ -134,7 +135,13 @@ one-frame kind es w e = go (entriesIn kind rule.HeaderFree es) refl e
     go (frames (f ∷ k ∷ fs)) q x = apart (cc)
     go (frames (f ∷ [])) q x =
         let g : groupIn kind es ≡ f ∷ [] = ap framesIn (read-any kind rule.HeaderFree es (f ∷ []) q) in
-        record { frame = f; is = g; listed = rw g (entries-listed kind (allowed (kind .table) rule.HeaderFree) es 0 (f ∷ []) q) }
+        let ok = entries-ok kind (allowed (kind .table) rule.HeaderFree) es 0 (f ∷ []) q in
+        record {
+          frame = f;
+          is = g;
+          listed = rw g (entries-listed kind (allowed (kind .table) rule.HeaderFree) es 0 (f ∷ []) q);
+          may-be-sent = both-true (ltb 0 (length (f .body))) (sendable (kind .table) (f .type) (f .body)) (ok .0) .1;
+        }
 
 only-packet : (fs : List Frame) (f : Frame) → fs ≡ f ∷ [] → fs ≡ packetFrames 0 0 1 fs
 unfolding packetFrames upTo
@@ -223,8 +230,17 @@ sendable-sent v t f e = go (eqb (f .type) erasure) refl
         absurd (not-sent (rowOf v erasure) t (f .body) z)
     go false q = q
 
+-- frames that may be sent
+none-sent : (v : FrameTable) → T (neverSent v) → (fs : List Frame) → Every (λ f. sendable v (f .type) (f .body) ≡ true) fs → (i : ℕ) → i < length fs → isErasure (frameAt fs i) ≡ false
+none-sent v t fs ok i h = every-at (λ f. isErasure f ≡ false) fs i (every-so _ _ (λ f x. sendable-sent v t f x) fs ok) h
+
 pub writer-sends-no-erasure : WriterSendsNoErasure
 unfolding WriterSendsNoErasure allowed
-writer-sends-no-erasure kind t m l n b d es w e i h =
-    let ok = entries-ok kind (allowed (kind .table) rule.Sendable) es 0 (groupIn kind es) (made-of kind m l n b d es w e .sent) in
-    every-at (λ f. isErasure f ≡ false) (groupIn kind es) i (every-so _ _ (λ f x. sendable-sent (kind .table) t f x) (groupIn kind es) ok) h
+writer-sends-no-erasure kind t m l n b d es w e =
+    none-sent (kind .table) t (groupIn kind es) (entries-ok kind (allowed (kind .table) rule.Sendable) es 0 (groupIn kind es) (made-of kind m l n b d es w e .sent))
+
+pub header-free-sends-no-erasure : HeaderFreeSendsNoErasure
+unfolding HeaderFreeSendsNoErasure
+header-free-sends-no-erasure kind t es w e =
+    let o = one-frame kind es w e in
+    none-sent (kind .table) t (groupIn kind es) (subst (Every (λ f. sendable (kind .table) (f .type) (f .body) ≡ true)) (sym (o .is)) (o .may-be-sent, tt))

@@ -9,7 +9,7 @@ use lib.ListN.{length, take, drop}
 use Rattle.answers.specs.declared.Written.{Written}
 use Rattle.answers.specs.declared.Written.the-variants.{Octets}
 use Rattle.form.specs.declared.Form.{Form}
-use Rattle.form.specs.declared.Form.the-variants.{Interleaved}
+use Rattle.form.specs.declared.Form.the-variants.{HeaderFree, Interleaved}
 use Rattle.form.specs.declared.Limits.{Limits}
 use Rattle.form.specs.Agreed.{vocoderOf, voiceFor}
 use Rattle.frame.specs.FrameTable.{Frame}
@@ -40,42 +40,60 @@ pub record Wrote (x : Written × LentOut) (w : List ℕ) : Type 0 where
   pub count : x .0 ≡ Octets (length w)
   pub front : take (length w) (x .1 .out) ≡ w
 
--- "one interleave group written by our writer": each packet as `packet::write` wrote it, of the same entries, into some buffer
-pub record WrittenGroup (write : Build packet.write) : Type 0 where
+-- "our writer": a build of each of its two calls
+pub record Writers : Type 0 where
+  pub write : Build packet.write
+  pub write-header-free : Build packet.writeHeaderFree
+
+-- "written by our writer": how the packets of a group of these numbers and frames came to be
+pub data ByWriter (writers : Writers) (g : GroupNumbers) (frames : List Frame) (payload : ℕ → List ℕ) : Type 0 where
+  -- each as `packet::write` wrote it, of the same entries, into some buffer
+  interleaved :
+      (limits : Limits) (entries : List ℕ) (d : ℕ → ℕ) (buffer : ℕ → List ℕ) →
+      groupIn (kindOf (vocoderOf (Interleaved limits))) entries ≡ frames →
+      ((n : ℕ) → n ≤ g .l →
+      Wrote (writers .write .run (Interleaved limits, (g .l, (n, (g .b, (d n, entries))))) (record { out = buffer n })) (payload n)) →
+      ByWriter writers g frames payload
+  -- or the one packet of one frame, as `packet::write_header_free` wrote it
+  headerFree :
+      (entries buffer w : List ℕ) → groupIn (kindOf (vocoderOf HeaderFree)) entries ≡ frames → g .l ≡ 0 → g .b ≡ 1 →
+      Wrote (writers .write-header-free .run (HeaderFree, entries) (record { out = buffer })) w → ((n : ℕ) → payload n ≡ w) →
+      ByWriter writers g frames payload
+
+-- "of the form it was written in, under limits that admit it"
+unfoldable pub formsOf : {writers : Writers} {g : GroupNumbers} {frames : List Frame} {payload : ℕ → List ℕ} →
+    ByWriter writers g frames payload → Form → Type 0
+formsOf {g = g} (interleaved limits entries d buffer e w) form = AdmitsIn (g .l) (g .b) form
+formsOf (headerFree entries buffer w e l b x p) form = form ≡ HeaderFree
+
+-- "one interleave group written by our writer", with its original frames in time order
+pub record WrittenGroup (writers : Writers) : Type 0 where
   pub source : ℕ
   pub numbers : GroupNumbers
-  pub limits : Limits
-  pub entries : List ℕ
-  pub d : ℕ → ℕ
-  pub buffer : ℕ → List ℕ
+  pub frames : List Frame
   pub payload : ℕ → List ℕ
   pub sequence-fits : numbers .sequence < 65536
   pub timestamp-fits : numbers .timestamp < 4294967296
-  pub wrote : (n : ℕ) → n ≤ numbers .l →
-      Wrote (write .run (Interleaved limits, (numbers .l, (n, (numbers .b, (d n, entries))))) (record { out = buffer n })) (payload n)
-
--- its original frames, in time order
-abbrev pub originals : {write : Build packet.write} → WrittenGroup write → List Frame
-originals g = groupIn (kindOf (vocoderOf (Interleaved (g .limits)))) (g .entries)
+  pub written : ByWriter writers numbers frames payload
 
 -- its packet n, offered through `session::offer`
-abbrev pub offerThrough : {write : Build packet.write} → Build session.offer → WrittenGroup write → Session → ℕ → Offered
+abbrev pub offerThrough : {writers : Writers} → Build session.offer → WrittenGroup writers → Session → ℕ → Offered
 offerThrough offer g s n = offer .run (s, (g .source, (numbered (g .numbers) n, (stamped (g .numbers) n, g .payload n)))) tt .0
 
 -- its packets of these numbers, one after the other
-unfoldable pub offerAllThrough : {write : Build packet.write} → Build session.offer → WrittenGroup write → Session → List ℕ → Session
+unfoldable pub offerAllThrough : {writers : Writers} → Build session.offer → WrittenGroup writers → Session → List ℕ → Session
 offerAllThrough offer g s [] = s
 offerAllThrough offer g s (n ∷ ns) = offerAllThrough offer g (offerThrough offer g s n .session) ns
 
 -- every offer is accepted; the first reports these lost frames, the others none
-unfoldable pub AcceptedThrough : {write : Build packet.write} → Build session.offer → WrittenGroup write → Session → ℕ → List ℕ → Type 0
+unfoldable pub AcceptedThrough : {writers : Writers} → Build session.offer → WrittenGroup writers → Session → ℕ → List ℕ → Type 0
 AcceptedThrough offer g s lost [] = Unit {0}
 AcceptedThrough offer g s lost (n ∷ ns) =
     (offerThrough offer g s n .answer ≡ Accepted lost) × AcceptedThrough offer g (offerThrough offer g s n .session) 0 ns
 
 -- the frames of every place, where these packets were offered
-pub record Restored {write : Build packet.write} (g : WrittenGroup write) (ns : List ℕ) (frames : List Frame) : Type 0 where
-  pub places : PouredPlaces frames (originals g) (g .numbers .l) (g .numbers .b) ns
+pub record Restored {writers : Writers} (g : WrittenGroup writers) (ns : List ℕ) (frames : List Frame) : Type 0 where
+  pub places : PouredPlaces frames (g .frames) (g .numbers .l) (g .numbers .b) ns
   pub octet-count : length (entriesOf frames) ≡ (g .numbers .l + 1) * g .numbers .b + bodyOctets frames
   -- "If exactly one packet of two or more is missing, exactly as many erasures stand there as a packet has frames, and no two are
   -- neighbours."
@@ -86,7 +104,7 @@ abbrev pub pouredInto : List ℕ → List Frame → List ℕ
 pouredInto out frames = entriesOf frames ++ drop (length (entriesOf frames)) out
 
 -- what `session::pour` answers and leaves
-pub record PouredThrough {write : Build packet.write} (pour : Build session.pour) (g : WrittenGroup write) (s : Session) (ns : List ℕ)
+pub record PouredThrough {writers : Writers} (pour : Build session.pour) (g : WrittenGroup writers) (s : Session) (ns : List ℕ)
     : Type 0 where
   pub frames : List Frame
   pub restored : Restored g ns frames
@@ -97,8 +115,9 @@ pub record PouredThrough {write : Build packet.write} (pour : Build session.pour
 -- the third demand of the order, of one group
 unfoldable pub Demand3 : Type 0
 Demand3 =
-    (write : Build packet.write) (offer : Build session.offer) (pour : Build session.pour) (g : WrittenGroup write) →
-    (form : Form) → AdmitsIn (g .numbers .l) (g .numbers .b) form → (s : Session) → Ready (voiceFor form) form s (g .source) (g .numbers) →
+    (writers : Writers) (offer : Build session.offer) (pour : Build session.pour) →
+    (g : WrittenGroup writers) (form : Form) → formsOf (g .written) form →
+    (s : Session) → Ready (voiceFor form) form s (g .source) (g .numbers) →
     (n : ℕ) (ns : List ℕ) → Within (g .numbers .l) (n ∷ ns) →
     AcceptedThrough offer g s (lostBefore (voiceFor form .shape) s (g .numbers)) (n ∷ ns)
     × PouredThrough pour g (offerAllThrough offer g s (n ∷ ns)) (n ∷ ns)
@@ -107,24 +126,24 @@ Demand3 =
 
 -- its packet n, offered through `lv_session_offer`
 abbrev pub hostOffer :
-    {write : Build packet.write} → Build landing.lvSessionOffer → WrittenGroup write → LentSessionLost → ℕ → ℕ × LentSessionLost
+    {writers : Writers} → Build landing.lvSessionOffer → WrittenGroup writers → LentSessionLost → ℕ → ℕ × LentSessionLost
 hostOffer offer g o n = offer .run (g .source, (numbered (g .numbers) n, (stamped (g .numbers) n, g .payload n))) o
 
 -- its packets of these numbers, one after the other
 unfoldable pub hostOfferAll :
-    {write : Build packet.write} → Build landing.lvSessionOffer → WrittenGroup write → LentSessionLost → List ℕ → LentSessionLost
+    {writers : Writers} → Build landing.lvSessionOffer → WrittenGroup writers → LentSessionLost → List ℕ → LentSessionLost
 hostOfferAll offer g o [] = o
 hostOfferAll offer g o (n ∷ ns) = hostOfferAll offer g (hostOffer offer g o n .1) ns
 
 -- every answer is 0; the first tells these lost frames, the others none
 unfoldable pub HostAccepted :
-    {write : Build packet.write} → Build landing.lvSessionOffer → WrittenGroup write → LentSessionLost → ℕ → List ℕ → Type 0
+    {writers : Writers} → Build landing.lvSessionOffer → WrittenGroup writers → LentSessionLost → ℕ → List ℕ → Type 0
 HostAccepted offer g o lost [] = Unit {0}
 HostAccepted offer g o lost (n ∷ ns) =
     (hostOffer offer g o n .0 ≡ 0) × ((hostOffer offer g o n .1 .lost ≡ lost) × HostAccepted offer g (hostOffer offer g o n .1) 0 ns)
 
 -- what `lv_session_pour` answers and leaves
-pub record HostPoured {write : Build packet.write} (pour : Build landing.lvSessionPour) (g : WrittenGroup write) (o : List ℕ) (ns : List ℕ)
+pub record HostPoured {writers : Writers} (pour : Build landing.lvSessionPour) (g : WrittenGroup writers) (o : List ℕ) (ns : List ℕ)
     : Type 0 where
   pub frames : List Frame
   pub restored : Restored g ns frames
@@ -135,8 +154,8 @@ pub record HostPoured {write : Build packet.write} (pour : Build landing.lvSessi
 -- the third demand, as a host sees it
 unfoldable pub HostDemand3 : Type 0
 HostDemand3 =
-    (write : Build packet.write) (offer : Build landing.lvSessionOffer) (pour : Build landing.lvSessionPour) (g : WrittenGroup write) →
-    (form : Form) → AdmitsIn (g .numbers .l) (g .numbers .b) form → (o : LentSessionLost) →
+    (writers : Writers) (offer : Build landing.lvSessionOffer) (pour : Build landing.lvSessionPour) →
+    (g : WrittenGroup writers) (form : Form) → formsOf (g .written) form → (o : LentSessionLost) →
     Ready (voiceFor form) form (sessionIn (o .session)) (g .source) (g .numbers) →
     (n : ℕ) (ns : List ℕ) → Within (g .numbers .l) (n ∷ ns) →
     HostAccepted offer g o (lostBefore (voiceFor form .shape) (sessionIn (o .session)) (g .numbers)) (n ∷ ns)

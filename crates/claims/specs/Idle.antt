@@ -15,18 +15,16 @@ use Rattle.pouring.specs.Pouring.{inTime}
 use Rattle.session.specs.declared.Session.{Session}
 use Rattle.session.specs.declared.Taken.the-variants.{Accepted}
 use Rattle.claims.specs.Call.{Build}
-use Rattle.claims.specs.Calls.Packet as packet
 use Rattle.claims.specs.Calls.Session as session
 use Rattle.claims.specs.Calls.Landing as landing
 use Rattle.claims.specs.Refusals.{RefusedOffer}
 use Rattle.claims.specs.Sessions.{lostBefore, bodyOctets}
 use Rattle.claims.specs.Offering.{Ready}
-use Rattle.claims.specs.Sending.{AdmitsIn}
-use Rattle.claims.specs.Demand3.{WrittenGroup, offerThrough}
+use Rattle.claims.specs.Demand3.{Writers, WrittenGroup, formsOf, offerThrough}
 
 -- the contracts can be met, or claims on builds would say nothing
 pub record Buildable : Type 0 where
-  pub write : Build packet.write
+  pub writers : Writers
   pub offer : Build session.offer
   pub pour : Build session.pour
   pub host-offer : Build landing.lvSessionOffer
@@ -34,10 +32,10 @@ pub record Buildable : Type 0 where
 
 -- a case of demand 3: a group that was written, a session that is ready for it, in a form that admits it, and one of its packets
 pub record Case3 : Type 0 where
-  pub write : Build packet.write
-  pub group : WrittenGroup write
+  pub writers : Writers
+  pub group : WrittenGroup writers
   pub form : Form
-  pub admitted : AdmitsIn (group .numbers .l) (group .numbers .b) form
+  pub admitted : formsOf (group .written) form
   pub session : Session
   pub ready : Ready (voiceFor form) form session (group .source) (group .numbers)
   pub n : ℕ

@@ -19,6 +19,7 @@ use Rattle.claims.specs.Recordings.{RecordingRefusalsPartEmpty}
 use Rattle.claims.specs.Demand3.{Demand3, HostDemand3, OpenedIsReady}
 use Rattle.claims.specs.Offering.{FreshIsReady, OffersDeliver}
 use Rattle.claims.specs.Sending.{WriterSends, HeaderFreeWriterSends, WriterSendsNoErasure, TablesNeverSendErasures}
+use Rattle.claims.specs.Sending.{HeaderFreeSendsNoErasure}
 use Rattle.claims.specs.Missing.{OneMissingPacket}
 use Rattle.claims.specs.Boxes.{CopiedOut, BoxesJoin}
 use Rattle.claims.specs.Joinings.{EveryOrderAndGrouping, EveryPermutation, WithItself, DifferenceEndsIn14, ElseTheyJoin}
@@ -95,6 +96,7 @@ pub record Promised : Type 0 where
   -- neighbours."
   pub one-missing-packet : OneMissingPacket
   pub writer-sends-no-erasure : WriterSendsNoErasure
+  pub header-free-sends-no-erasure : HeaderFreeSendsNoErasure
   pub tables-never-send-erasures : TablesNeverSendErasures
   -- "Holdings of that same group from several boxes join to the same holding in every order and grouping,"
   pub every-order-and-grouping : EveryOrderAndGrouping

@@ -72,6 +72,12 @@ WriterSendsNoErasure =
     packetMade kind (Interleaved m) l n b d es ≡ octets w →
     (i : ℕ) → i < length (groupIn kind es) → isErasure (frameAt (groupIn kind es) i) ≡ false
 
+-- nor has one that the header-free writer sends
+unfoldable pub HeaderFreeSendsNoErasure : Type 0
+HeaderFreeSendsNoErasure =
+    (kind : Kind) → T (neverSent (kind .table)) → (es w : List ℕ) → headerFreeMade kind HeaderFree es ≡ octets w →
+    (i : ℕ) → i < length (groupIn kind es) → isErasure (frameAt (groupIn kind es) i) ≡ false
+
 -- the frame table of every vocoder passes it
 unfoldable pub TablesNeverSendErasures : Type 0
 TablesNeverSendErasures = (vocoder : Vocoder) → T (neverSent (rowsOf vocoder))

@@ -3,6 +3,7 @@ use Prim.Native.Nat.{ℕ}
 use mathlib.Core.Path.{_≡_, refl}
 use mathlib.Core.List.{List, []}
 use denote.Ref.{RefT}
+use contract.Lifetimes.{Lfts}
 use Rattle.answers.specs.Outputs.{Made, writtenOf, outAfter}
 use Rattle.entries.specs.Kind.{kindOf}
 use Rattle.form.specs.Agreed.{vocoderOf, voiceFor}
@@ -13,7 +14,7 @@ use Rattle.session.specs.declared.Session.{Session}
 use Rattle.lending.specs.Calls.{offerAnswer, offerOctets, pourOf, pourOctets}
 use Rattle.lending.specs.Laid.{sessionVoice}
 use Rattle.landing.specs.Host.{CountTold, countTold, takenAfter, WriteTold, writeTold, writeAfter}
-use Rattle.claims.specs.Call.{Build}
+use Rattle.claims.specs.Call.{Call, Passed, Returned, Ended, Outcome, Build}
 use Rattle.claims.specs.Calls.Lent.{LentSessionLost, LentSessionOutWritten}
 use Rattle.claims.specs.Calls.Landing as landing
 use Rattle.claims.specs.Calls.Packet as packet
@@ -25,20 +26,29 @@ use Rattle.claims.proofs.Seen.{count-seen, write-seen}
 abbrev lies : {A : Type 0} → A → RefT A
 lies x = record { ptr = (0, 0); name = 0; now = x }
 
+-- what is passed so, and what comes of it, by name
+exactly : {call : Call} (κs : Lfts (call .lifetimes)) (a : Passed call κs) (x : Returned call κs) (e : Ended call κs) → call .allows κs a x e →
+    Outcome call (call .given κs a) (call .lent κs a) (call .answer κs x) (call .left κs e)
+exactly κs a x e p = record {
+  κs = κs;
+  passed = a;
+  returned = x;
+  ended = e;
+  allowed = p;
+  is-given = refl;
+  is-lent = refl;
+  is-answer = refl;
+  is-left = refl;
+}
+
 write-built : Build packet.write
 write-built = record {
   run = λ g o. (writtenOf (made g) (o .out), record { out = outAfter (made g) (o .out) });
-  meets = λ g o. record {
-    κs = ([], ([], tt));
-    passed = (g .0, (g .1 .0, (g .1 .1 .0, (g .1 .1 .1 .0, (g .1 .1 .1 .1 .0, (lies (g .1 .1 .1 .1 .1), (lies (o .out), tt)))))));
-    returned = writtenOf (made g) (o .out);
-    ended = (g .0, (g .1 .0, (g .1 .1 .0, (g .1 .1 .1 .0, (g .1 .1 .1 .1 .0, (lies (g .1 .1 .1 .1 .1), (lies (outAfter (made g) (o .out)), tt)))))));
-    allowed = record { answer = refl; output = refl };
-    is-given = refl;
-    is-lent = refl;
-    is-answer = refl;
-    is-left = refl;
-  };
+  meets = λ g o. exactly {call = packet.write} ([], ([], tt))
+      (g .0, (g .1 .0, (g .1 .1 .0, (g .1 .1 .1 .0, (g .1 .1 .1 .1 .0, (lies (g .1 .1 .1 .1 .1), (lies (o .out), tt)))))))
+      (writtenOf (made g) (o .out))
+      (g .0, (g .1 .0, (g .1 .1 .0, (g .1 .1 .1 .0, (g .1 .1 .1 .1 .0, (lies (g .1 .1 .1 .1 .1), (lies (outAfter (made g) (o .out)), tt)))))))
+      (record { answer = refl; output = refl });
 }
   where
     made : packet.write .Given → Made
@@ -47,17 +57,11 @@ write-built = record {
 header-free-built : Build packet.writeHeaderFree
 header-free-built = record {
   run = λ g o. (writtenOf (made g) (o .out), record { out = outAfter (made g) (o .out) });
-  meets = λ g o. record {
-    κs = ([], ([], tt));
-    passed = (g .0, (lies (g .1), (lies (o .out), tt)));
-    returned = writtenOf (made g) (o .out);
-    ended = (g .0, (lies (g .1), (lies (outAfter (made g) (o .out)), tt)));
-    allowed = record { answer = refl; output = refl };
-    is-given = refl;
-    is-lent = refl;
-    is-answer = refl;
-    is-left = refl;
-  };
+  meets = λ g o. exactly {call = packet.writeHeaderFree} ([], ([], tt))
+      (g .0, (lies (g .1), (lies (o .out), tt)))
+      (writtenOf (made g) (o .out))
+      (g .0, (lies (g .1), (lies (outAfter (made g) (o .out)), tt)))
+      (record { answer = refl; output = refl });
 }
   where
     made : packet.writeHeaderFree .Given → Made
@@ -66,33 +70,21 @@ header-free-built = record {
 offer-built : Build session.offer
 offer-built = record {
   run = λ g o. (offered (voiceFor (g .0 .form)) (g .0) (g .1 .0) (g .1 .1 .0) (g .1 .1 .1 .0) (g .1 .1 .1 .1), tt);
-  meets = λ g o. record {
-    κs = ([], tt);
-    passed = (g .0, (g .1 .0, (g .1 .1 .0, (g .1 .1 .1 .0, (lies (g .1 .1 .1 .1), tt)))));
-    returned = offered (voiceFor (g .0 .form)) (g .0) (g .1 .0) (g .1 .1 .0) (g .1 .1 .1 .0) (g .1 .1 .1 .1);
-    ended = (g .0, (g .1 .0, (g .1 .1 .0, (g .1 .1 .1 .0, (lies (g .1 .1 .1 .1), tt)))));
-    allowed = refl;
-    is-given = refl;
-    is-lent = refl;
-    is-answer = refl;
-    is-left = refl;
-  };
+  meets = λ g o. exactly {call = session.offer} ([], tt)
+      (g .0, (g .1 .0, (g .1 .1 .0, (g .1 .1 .1 .0, (lies (g .1 .1 .1 .1), tt)))))
+      (offered (voiceFor (g .0 .form)) (g .0) (g .1 .0) (g .1 .1 .0) (g .1 .1 .1 .0) (g .1 .1 .1 .1))
+      (g .0, (g .1 .0, (g .1 .1 .0, (g .1 .1 .1 .0, (lies (g .1 .1 .1 .1), tt)))))
+      refl;
 }
 
 pour-built : Build session.pour
 pour-built = record {
   run = λ s o. (record { answer = writtenOf (made s) (o .out); session = afterPour holdingShape s (writtenOf (made s) (o .out)) }, record { out = outAfter (made s) (o .out) });
-  meets = λ s o. record {
-    κs = ([], tt);
-    passed = (s, (lies (o .out), tt));
-    returned = record { answer = writtenOf (made s) (o .out); session = afterPour holdingShape s (writtenOf (made s) (o .out)) };
-    ended = (s, (lies (outAfter (made s) (o .out)), tt));
-    allowed = (record { answer = refl; output = refl }, refl);
-    is-given = refl;
-    is-lent = refl;
-    is-answer = refl;
-    is-left = refl;
-  };
+  meets = λ s o. exactly {call = session.pour} ([], tt)
+      (s, (lies (o .out), tt))
+      (record { answer = writtenOf (made s) (o .out); session = afterPour holdingShape s (writtenOf (made s) (o .out)) })
+      (s, (lies (outAfter (made s) (o .out)), tt))
+      (record { answer = refl; output = refl }, refl);
 }
   where
     made : Session → Made
@@ -108,17 +100,11 @@ told-write (writeTold x n out) = refl
 host-offer-built : Build landing.lvSessionOffer
 host-offer-built = record {
   run = λ g o. (count-seen (told g o) .0, record { session = after g o; lost = count-seen (told g o) .1 .count });
-  meets = λ g o. record {
-    κs = ([], ([], ([], tt)));
-    passed = (lies (o .session), (g .0, (g .1 .0, (g .1 .1 .0, (lies (g .1 .1 .1), (lies (o .lost), tt))))));
-    returned = count-seen (told g o) .0;
-    ended = (lies (after g o), (g .0, (g .1 .0, (g .1 .1 .0, (lies (g .1 .1 .1), (lies (count-seen (told g o) .1 .count), tt))))));
-    allowed = (told-count (told g o), refl);
-    is-given = refl;
-    is-lent = refl;
-    is-answer = refl;
-    is-left = refl;
-  };
+  meets = λ g o. exactly {call = landing.lvSessionOffer} ([], ([], ([], tt)))
+      (lies (o .session), (g .0, (g .1 .0, (g .1 .1 .0, (lies (g .1 .1 .1), (lies (o .lost), tt))))))
+      (count-seen (told g o) .0)
+      (lies (after g o), (g .0, (g .1 .0, (g .1 .1 .0, (lies (g .1 .1 .1), (lies (count-seen (told g o) .1 .count), tt))))))
+      (told-count (told g o), refl);
 }
   where
     told : landing.lvSessionOffer .Given → LentSessionLost → CountTold
@@ -130,17 +116,11 @@ host-offer-built = record {
 host-pour-built : Build landing.lvSessionPour
 host-pour-built = record {
   run = λ g o. (write-seen (told o) .0, record { session = after o; out = write-seen (told o) .1 .out; written = write-seen (told o) .1 .written });
-  meets = λ g o. record {
-    κs = ([], ([], ([], tt)));
-    passed = (lies (o .session), (lies (o .out), (lies (o .written), tt)));
-    returned = write-seen (told o) .0;
-    ended = (lies (after o), (lies (write-seen (told o) .1 .out), (lies (write-seen (told o) .1 .written), tt)));
-    allowed = (told-write (told o), refl);
-    is-given = refl;
-    is-lent = refl;
-    is-answer = refl;
-    is-left = refl;
-  };
+  meets = λ g o. exactly {call = landing.lvSessionPour} ([], ([], ([], tt)))
+      (lies (o .session), (lies (o .out), (lies (o .written), tt)))
+      (write-seen (told o) .0)
+      (lies (after o), (lies (write-seen (told o) .1 .out), (lies (write-seen (told o) .1 .written), tt)))
+      (told-write (told o), refl);
 }
   where
     told : LentSessionOutWritten → WriteTold

@@ -1,9 +1,20 @@
 -- What a build of a call does, by the contract that it meets. Assumes nothing.
-use Prim.Native.Nat.{ℕ}
-use mathlib.Core.Path.{_≡_, subst}
-use mathlib.Core.List.{List}
+use Prim.Native.Nat.{ℕ, _≤_}
+use mathlib.Core.Path.{_≡_, refl, sym, ap, subst, _∙_}
+use mathlib.Core.List.{List, _++_}
+use mathlib.Core.Bool.{Bool, true, false, cond}
+use native.Mathlib.Nat.{zero-add}
+use lib.Dec.{leb}
+use lib.ListN.{length, take, drop}
+use lib.Seq.{take-at}
 use contract.Lifetimes.{Lfts}
-use Rattle.answers.specs.Outputs.{Writes}
+use Rattle.octets.specs.Octets.{over}
+use Rattle.octets.proofs.Logic.{apart}
+use Rattle.answers.specs.Outputs.{Made, octets, refusedOutput, writtenOf, outAfter, Writes}
+use Rattle.answers.specs.declared.Refusal.the-variants.{NoRoom}
+use Rattle.answers.specs.declared.Written.{Written}
+use Rattle.answers.specs.declared.Written.the-variants as written
+use Rattle.answers.proofs.OutputsLaws.{writes-octets}
 use Rattle.entries.specs.Kind.{kindOf}
 use Rattle.form.specs.declared.Form.{Form}
 use Rattle.form.specs.Agreed.{vocoderOf, voiceFor}
@@ -31,6 +42,38 @@ pub by-name : {call : Call} (P : call .Given → call .Lent → call .Answer →
     P (call .given κs a) (call .lent κs a) (call .answer κs x) (call .left κs e)) →
     {given : call .Given} {lent : call .Lent} {answer : call .Answer} {left : call .Lent} → Outcome call given lent answer left → P given lent answer left
 by-name P tells o = in-all P _ _ _ _ _ _ _ _ (o .is-given) (o .is-lent) (o .is-answer) (o .is-left) (tells _ _ _ _ (o .allowed))
+
+-- ---- writers
+
+-- what a writer that answers a count was to write
+pub record ToWrite (made : Made) (out : List ℕ) (k : ℕ) : Type 0 where
+  pub w : List ℕ
+  pub is : made ≡ octets w
+  pub count : k ≡ length w
+  pub output : outAfter made out ≡ w ++ drop (length w) out
+
+pub to-write : (made : Made) (out : List ℕ) (k : ℕ) → writtenOf made out ≡ written.Octets k → ToWrite made out k
+unfolding writtenOf outAfter
+to-write (refusedOutput r) out k e = apart (cc)
+to-write (octets u) out k e = go (leb (length u) (length out)) refl e
+  where
+    same : {a b : ℕ} → written.Octets a ≡ written.Octets b → b ≡ a
+    same q = cc
+
+    go : (t : Bool) → leb (length u) (length out) ≡ t → cond t (written.Octets (length u)) (written.Refused NoRoom) ≡ written.Octets k → ToWrite (octets u) out k
+    go false f x = apart (cc)
+    go true f x = record { w = u; is = refl; count = same x; output = ap (λ (t : Bool). cond t (u ++ drop (length u) out) out) f }
+
+-- so what stands first in its buffer is that
+pub wrote-made : (made : Made) (out : List ℕ) (r : Written) (after w : List ℕ) → Writes made out r after → r ≡ written.Octets (length w) → take (length w) after ≡ w → made ≡ octets w
+wrote-made made out r after w p c f =
+    let x = to-write made out (length w) (sym (p .answer) ∙ c) in
+    x .is ∙ ap octets (sym (take-at (x .w) (drop (length (x .w)) out) (length w) (sym (x .count))) ∙ ap (take (length w)) (sym (p .output ∙ x .output)) ∙ f)
+
+-- and where there is room, it is written
+pub fits-written : (w out : List ℕ) → length w ≤ length out → Writes (octets w) out (written.Octets (length w)) (w ++ drop (length w) out)
+unfolding over
+fits-written w out h = writes-octets (octets w) out w _ (length w) refl h refl (ap (λ (i : ℕ). w ++ drop i out) (sym (zero-add (length w))))
 
 -- ---- writing a packet, offering, pouring
 pub writes-so : (build : Build packet.write) (form : Form) (l n b d : ℕ) (es out : List ℕ) →

@@ -1,17 +1,8 @@
 -- Demand 3, from end to end. Assumes nothing.
 use Prim.Native.Nat.{ℕ, _+_, _*_, _≤_, _<_, zero-le}
 use mathlib.Core.Path.{_≡_, refl, sym, ap, ap₂, subst, _∙_}
-use mathlib.Core.List.{List, [], _∷_, _++_}
-use mathlib.Core.Bool.{Bool, true, false, cond}
-use lib.Dec.{leb}
-use lib.ListN.{length, take, drop}
-use lib.Seq.{take-at}
-use borrow.Author.Tests.{le-leb}
-use Rattle.octets.proofs.Logic.{apart}
-use Rattle.answers.specs.Outputs.{Made, octets, refusedOutput, writtenOf, outAfter, Writes}
-use Rattle.answers.specs.declared.Refusal.the-variants.{NoRoom}
-use Rattle.answers.specs.declared.Written.{Written}
-use Rattle.answers.specs.declared.Written.the-variants as written
+use mathlib.Core.List.{List, [], _∷_}
+use Rattle.answers.specs.Outputs.{Made, octets, Writes}
 use Rattle.entries.specs.Entries.{entriesOf}
 use Rattle.entries.specs.Kind.{kindOf}
 use Rattle.form.specs.Agreed.{vocoderOf, voiceFor}
@@ -22,12 +13,10 @@ use Rattle.frame.specs.Shape.{Voice}
 use Rattle.packet.specs.Writing.{packetMade, headerFreeMade}
 use Rattle.pouring.specs.Pouring.{inTime}
 use Rattle.numbers.specs.declared.GroupNumbers.{GroupNumbers}
-use Rattle.session.specs.Session.{refuse, accept, withGroup, begins, arrival, offered}
+use Rattle.session.specs.Session.{withGroup, offered}
 use Rattle.session.specs.declared.Session.{Session}
-use Rattle.session.specs.declared.Arrival.{Arrival}
 use Rattle.session.specs.declared.Offered.{Offered}
-use Rattle.session.proofs.Ends.{Placed, Ends, offer-ends}
-use Rattle.session.proofs.Ends as ends
+use Rattle.session.proofs.Ends.{only-group}
 use Rattle.claims.specs.Call.{Build}
 use Rattle.claims.specs.Calls.Session as session
 use Rattle.claims.specs.Packets.{KindsPass}
@@ -42,47 +31,12 @@ use Rattle.claims.proofs.PacketsBack.{kinds-pass}
 use Rattle.claims.proofs.Offering.{offers-deliver}
 use Rattle.claims.proofs.Sending.{writer-sends, header-free-writer-sends, writer-sends-no-erasure, header-free-sends-no-erasure, tables-never-send-erasures}
 use Rattle.claims.proofs.Missing.{one-missing-packet}
-use Rattle.claims.proofs.Builds.{writes-so, writes-header-free-so, offers-so, pours-so}
-
--- ---- what a writer wrote is what was to be written
-pub wrote-made : (made : Made) (out : List ℕ) (r : Written) (after w : List ℕ) → Writes made out r after → r ≡ written.Octets (length w) → take (length w) after ≡ w → made ≡ octets w
-unfolding writtenOf outAfter
-wrote-made (refusedOutput s) out r after w p c f = let z : written.Refused s ≡ written.Octets (length w) = sym (p .answer) ∙ c in apart (cc)
-wrote-made (octets u) out r after w p c f = go (leb (length u) (length out)) (sym (p .answer) ∙ c) (p .output)
-  where
-    same : {a b : ℕ} → written.Octets a ≡ written.Octets b → a ≡ b
-    same q = cc
-
-    go : (t : Bool) → cond t (written.Octets (length u)) (written.Refused NoRoom) ≡ written.Octets (length w) → after ≡ cond t (u ++ drop (length u) out) out → octets u ≡ octets w
-    go false x y = apart (cc)
-    go true x y =
-        let e : length u ≡ length w = same x in
-        ap octets (sym (take-at u (drop (length u) out) (length w) e) ∙ ap (take (length w)) (sym y) ∙ f)
-
--- what is written where there is room
-pub written-room : (w out : List ℕ) (r : Written) (after : List ℕ) → Writes (octets w) out r after → length w ≤ length out →
-    (r ≡ written.Octets (length w)) × (after ≡ w ++ drop (length w) out)
-unfolding writtenOf outAfter
-written-room w out r after p h =
-    let z : leb (length w) (length out) ≡ true = le-leb (length w) (length out) h in
-    (p .answer ∙ ap (λ (t : Bool). cond t (written.Octets (length w)) (written.Refused NoRoom)) z, p .output ∙ ap (λ (t : Bool). cond t (w ++ drop (length w) out) out) z)
+use Rattle.claims.proofs.Builds.{wrote-made, fits-written, writes-so, writes-header-free-so, offers-so, pours-so}
 
 -- ---- an offer keeps the session's form
-placed-form : (v : Voice) (s : Session) (a : Arrival) (o : Offered) → Placed (v .shape) s a o → o .session .form ≡ s .form
-unfolding refuse accept withGroup begins
-placed-form v s a o (ends.no r e) = ap (λ (x : Offered). x .session .form) e
-placed-form v s a o (ends.again q e) = ap (λ (x : Offered). x .session .form) e
-placed-form v s a o (ends.put q l b e) = ap (λ (x : Offered). x .session .form) e
-placed-form v s a o (ends.first q p e) = ap (λ (x : Offered). x .session .form) e
-placed-form v s a o (ends.next q p lost f h e) = ap (λ (x : Offered). x .session .form) e
-
 keeps-form : (v : Voice) (s : Session) (source sequence timestamp : ℕ) (p : List ℕ) → offered v s source sequence timestamp p .session .form ≡ s .form
-unfolding refuse
-keeps-form v s source sequence timestamp p = go _ (offer-ends v s source sequence timestamp p)
-  where
-    go : (o : Offered) → Ends v s source sequence timestamp p o → o .session .form ≡ s .form
-    go o (ends.refuses r e) = ap (λ (x : Offered). x .session .form) e
-    go o (ends.places i j l n d fs q x) = placed-form v s (arrival (v .shape) sequence timestamp l n fs) o x
+unfolding withGroup
+keeps-form v s source sequence timestamp p = ap (λ (t : Session). t .form) (only-group v s source sequence timestamp p)
 
 -- ---- packets that were written are those that were sent
 module _ {writers : Writers} (g : WrittenGroup writers) (form : Form) (t : Sent (voiceFor form) form)
@@ -219,8 +173,8 @@ module _ (writers : Writers) (g : WrittenGroup writers) where
           record {
             frames = places;
             restored = restores;
-            answered = λ out h. written-room (entriesOf places) out _ _ (made out) h .0;
-            poured = λ out h. written-room (entriesOf places) out _ _ (made out) h .1;
+            answered = λ out h. made out .answer ∙ sym (fits-written (entriesOf places) out h .answer);
+            poured = λ out h. made out .output ∙ sym (fits-written (entriesOf places) out h .output);
           }
 
 -- every offer is accepted, and the session after them is the one that was offered what was sent

@@ -1,15 +1,11 @@
 -- Demand 3 from end to end, through the C calls. Assumes nothing.
 use Prim.Native.Nat.{ℕ, _≤_}
-use mathlib.Core.Path.{_≡_, refl, sym, ap, subst, _∙_}
+use mathlib.Core.Path.{_≡_, refl, sym, ap, ap₂, subst, _∙_}
 use mathlib.Core.List.{List, [], _∷_, _++_}
-use mathlib.Core.Bool.{Bool, true, cond}
-use lib.Dec.{leb}
 use lib.ListN.{length, drop}
-use borrow.Author.Tests.{le-leb}
 use Rattle.octets.specs.Octets.{over}
-use Rattle.answers.specs.Outputs.{Made, octets, writtenOf, outAfter}
-use Rattle.answers.specs.declared.Refusal.the-variants.{NoRoom}
-use Rattle.answers.specs.declared.Written.the-variants as written
+use Rattle.answers.specs.Outputs.{Made, octets}
+use Rattle.answers.specs.declared.Written.{Written}
 use Rattle.entries.specs.Entries.{entriesOf}
 use Rattle.form.specs.Agreed.{vocoderOf, voiceFor}
 use Rattle.form.specs.declared.Form.{Form}
@@ -39,7 +35,7 @@ use Rattle.claims.proofs.LentBack.{session-reads-back, nothing-poured-n
 use Rattle.claims.proofs.Seen.{count-seen, write-seen}
 use Rattle.claims.proofs.Offering.{begins-group, step}
 use Rattle.claims.proofs.Demand3.{offered-so, sent-so, t-source, t-numbers, t-l, delivered, restores}
-use Rattle.claims.proofs.Builds.{host-offer-told, host-pours-so}
+use Rattle.claims.proofs.Builds.{fits-written, host-offer-told, host-pours-so}
 
 -- what is laid out of a session whose group holds a packet is read back
 laid-back : (form : Form) (s : Session) → NoneRemembered s → Box (voiceFor form) (s .group) → (o : List ℕ) → sessionIn (over o 0 (sessionLaid s)) ≡ s
@@ -103,10 +99,10 @@ module _ {writers : Writers} (offer : Build landing.lvSessionOffer) (g : Written
 
 -- ---- pouring
 written-told : (w out : List ℕ) (k : ℕ) → length w ≤ length out → writeAfter (octets w) k out ≡ writeTold 0 (length w) (w ++ drop (length w) out)
-unfolding writeAfter writtenOf outAfter writtenAfter
+unfolding writeAfter writtenAfter
 written-told w out k h =
-    let z : leb (length w) (length out) ≡ true = le-leb (length w) (length out) h in
-    ap (λ (t : Bool). withOutput (writtenAfter (cond t (written.Octets (length w)) (written.Refused NoRoom)) k) (cond t (w ++ drop (length w) out) out)) z
+    let x = fits-written w out h in
+    ap₂ (λ (r : Written) (o : List ℕ). withOutput (writtenAfter r k) o) (sym (x .answer)) (sym (x .output))
 
 pub host-demand-3 : HostDemand3
 unfolding HostDemand3 pourOf

@@ -4,14 +4,13 @@ use mathlib.Core.Path.{_≡_, refl, sym, ap, ap₂, subst, _∙_}
 use mathlib.Core.List.{List, [], _∷_}
 use mathlib.Core.Bool.{Bool, true, false, cond, _||_}
 use native.Mathlib.Omega.{arith}
-use lib.Dec.{eqb, leb}
+use lib.Dec.{eqb}
 use lib.ListN.{length, take, drop, getD, replicate, length-replicate}
 use lib.Seq.{take-at, drop-at}
 use borrow.Author.Tests.{eq-eqb, ne-eqb}
 use Rattle.octets.proofs.Logic.{apart}
-use Rattle.answers.specs.Outputs.{Made, octets, refusedOutput, writtenOf}
-use Rattle.answers.specs.declared.Refusal.the-variants.{NoRoom, NotApplicable}
-use Rattle.answers.specs.declared.Written.the-variants as written
+use Rattle.answers.specs.Outputs.{octets, refusedOutput}
+use Rattle.answers.specs.declared.Refusal.the-variants.{NotApplicable}
 use Rattle.entries.specs.Entries.{entriesOf}
 use Rattle.form.specs.Agreed.{voiceFor}
 use Rattle.frame.specs.FrameTable.{Frame, erasure}
@@ -38,7 +37,7 @@ use Rattle.claims.specs.Idle.{Case3, RefusesEverything, PoursErasures, S
 use Rattle.claims.proofs.Sessions.{octet-count-by-formula}
 use Rattle.claims.proofs.Offering.{some-held}
 use Rattle.claims.proofs.Demand3.{accepts, sent-so, t-l, t-b, t-frames, delivered, none-erased, demand-3}
-use Rattle.claims.proofs.Builds.{pours-so}
+use Rattle.claims.proofs.Builds.{to-write, pours-so}
 
 -- ---- the first packet is accepted, and then held
 first-told : (offer : Build session.offer) (c : Case3) → offerThrough offer (c .group) (c .session) (c .n) .answer ≡ Accepted (lostBefore holdingShape (c .session) (c .group .numbers))
@@ -137,26 +136,17 @@ pours-erasures offer pour h c =
     first-among false e = apart (cc)
 
 -- ---- what is answered to have been poured was to be poured
-count-of : (made : Made) (out : List ℕ) (k : ℕ) → writtenOf made out ≡ written.Octets k → (w : List ℕ) → made ≡ octets w → k ≡ length w
-unfolding writtenOf
-count-of (refusedOutput r) out k e w q = apart (cc)
-count-of (octets u) out k e w q = go (leb (length u) (length out)) e ∙ ap length (same q)
+open-poured : (v : Voice) (s : Session) (w : List ℕ) → pourMade v s ≡ octets w → poured v (s .group) ≡ octets w
+unfolding pourMade
+open-poured v s w e = go (isOpen v s) e
   where
-    same : {x y : List ℕ} → octets x ≡ octets y → x ≡ y
-    same i = cc
-
-    go : (b : Bool) → cond b (written.Octets (length u)) (written.Refused NoRoom) ≡ written.Octets k → k ≡ length u
-    go true i = let j : length u ≡ k = cc in sym j
-    go false i = apart (cc)
+    go : (b : Bool) → cond b (poured v (s .group)) (refusedOutput NotApplicable) ≡ octets w → poured v (s .group) ≡ octets w
+    go true q = q
+    go false q = apart (cc)
 
 pub invents-octet-counts : InventsOctetCounts
-unfolding InventsOctetCounts OctetCountByFormula pourMade writtenOf
-invents-octet-counts pour s out k e d = go (isOpen v s) (poured v (s .group)) refl (sym (pours-so pour s out .0 .answer) ∙ e)
-  where
-    v : Voice
-    v = voiceFor (s .form)
-
-    go : (b : Bool) (made : Made) → poured v (s .group) ≡ made → writtenOf (cond b made (refusedOutput NotApplicable)) out ≡ written.Octets k → ⊥
-    go false made p q = apart (cc)
-    go true (refusedOutput r) p q = apart (cc)
-    go true (octets w) p q = d (count-of (octets w) out k q w refl ∙ octet-count-by-formula v (s .group) w p)
+unfolding InventsOctetCounts OctetCountByFormula
+invents-octet-counts pour s out k e d =
+    let v = voiceFor (s .form) in
+    let x = to-write (pourMade v s) out k (sym (pours-so pour s out .0 .answer) ∙ e) in
+    d (x .count ∙ octet-count-by-formula v (s .group) (x .w) (open-poured v s (x .w) (x .is)))

@@ -1,7 +1,7 @@
 -- What was laid out in lent octets reads back the same: each field is a window of the octets, and the window is the piece that was laid out. Assumes nothing.
 use Prim.Native.Nat.{ℕ, _+_, _%_, _≤_, _<_}
 use mathlib.Core.Bool.{Bool, true, false, cond}
-use mathlib.Core.Path.{_≡_, refl, sym, ap, ap₂, _∙_}
+use mathlib.Core.Path.{_≡_, refl, sym, ap, ap₂, subst, _∙_}
 use mathlib.Core.List.{List, [], _∷_, _++_, map}
 use native.Mathlib.Nat.{add-zero, zero-add}
 use native.Mathlib.Omega.{arith}
@@ -15,16 +15,14 @@ use Rattle.answers.specs.declared.Refusal.the-variants.{NotApplicable}
 use Rattle.answers.specs.declared.Answer.the-variants as answer
 use Rattle.joining.proofs.Heads.{same-fields}
 use Rattle.holding.specs.declared.Holding.{Holding}
-use Rattle.frame.specs.Shape.{Shape, Voice, holdingShape}
+use Rattle.frame.specs.Shape.{Voice, holdingShape}
 use Rattle.holding.specs.Group.{Shaped}
 use Rattle.form.specs.declared.Form.{Form}
 use Rattle.form.specs.declared.Form.the-variants.{HeaderFree, Interleaved}
-use Rattle.session.specs.Session.{vacant, neverOpened, fresh, formRight, openedFor, refuse, accept, withGroup, begins, ended}
+use Rattle.session.specs.Session.{offered, vacant, neverOpened, fresh, formRight, openedFor, withGroup, ended}
 use Rattle.session.specs.declared.Session.{Session}
-use Rattle.session.specs.declared.Arrival.{Arrival}
 use Rattle.session.specs.declared.Started.{Started}
-use Rattle.session.specs.declared.Offered.{Offered}
-use Rattle.session.proofs.Ends.{Placed, no, again, put, first, next, Ends, refuses, places, offer-ends}
+use Rattle.session.proofs.Ends.{only-group}
 use Rattle.lending.specs.Laid.{flagOctet, isSet, isLaid, numberOctets, frameOctets, holdingOctets, holdingAt, holdingLaid}
 use Rattle.lending.specs.Laid.{formOctets, formAt, lastOctets, sessionHead, sessionLaid, sessionAt, isSession, sessionIn}
 use Rattle.lending.proofs.LaidLaws.{long-enough, form-free, form-interleaved, holding-there, session-there, session-read}
@@ -284,18 +282,8 @@ same-none : (s : Session) (h : Holding) → NoneRemembered s → NoneRemembered 
 unfolding NoneRemembered withGroup
 same-none s h n = n
 
-placed-none : (u : Shape) (s : Session) (a : Arrival) (o : Offered) → NoneRemembered s → Placed u s a o → NoneRemembered (o .session)
-unfolding refuse accept begins
-placed-none u s a o n (no r e) = rw e n
-placed-none u s a o n (again q e) = rw e n
-placed-none u s a o n (put q f g e) = rw e (same-none s _ n)
-placed-none u s a o n (first q p e) = rw e (same-none s _ n)
-placed-none u s a o n (next q p lost f h e) = rw e (same-none s _ n)
-
-ends-none : (v : Voice) (s : Session) (source q t : ℕ) (p : List ℕ) (o : Offered) → NoneRemembered s → Ends v s source q t p o → NoneRemembered (o .session)
-unfolding refuse
-ends-none v s source q t p o n (refuses r e) = rw e n
-ends-none v s source q t p o n (places x y l m d fs z w) = placed-none (v .shape) s _ o n w
+offered-none : (v : Voice) (s : Session) (source q t : ℕ) (p : List ℕ) → NoneRemembered s → NoneRemembered (offered v s source q t p .session)
+offered-none v s source q t p n = subst NoneRemembered (sym (only-group v s source q t p)) (same-none s (offered v s source q t p .session .group) n)
 
 opened-none : (source : ℕ) (form : Form) → NoneRemembered (openedFor holdingShape (neverOpened holdingShape) source form .session)
 unfolding openedFor neverOpened fresh vacant
@@ -331,6 +319,6 @@ pub nothing-poured-nothing-remembered : NothingPouredNothingRemembered
 nothing-poured-nothing-remembered = record {
   opened = opened-none;
   lent = lent-none;
-  offers = λ v s source q t p n. ends-none v s source q t p _ n (offer-ends v s source q t p);
+  offers = offered-none;
   pours = pours-none;
 }

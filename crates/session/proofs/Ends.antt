@@ -104,3 +104,21 @@ offer-ends v s source sequence timestamp p = by-open (isOpen v s) refl (eqb sour
     by-open true x true y (refusedPayload f) z = refuses (f .refusal) refl
     by-open true x true y (packet l n d fs) z =
         places x (eqb-true source (s .source) y) l n d fs z (placed-ends (v .shape) s (arrival (v .shape) sequence timestamp l n fs))
+
+-- ---- an offer changes the held group alone
+placed-group : (u : Shape) (s : Session) (a : Arrival) (o : Offered) → Placed u s a o → o .session ≡ withGroup s (o .session .group)
+unfolding refuse accept withGroup begins
+placed-group u s a o (no r e) = rw e
+placed-group u s a o (again q e) = rw e
+placed-group u s a o (put q l b e) = rw e
+placed-group u s a o (first q p e) = rw e
+placed-group u s a o (next q p lost f h e) = rw e
+
+pub only-group : (v : Voice) (s : Session) (source sequence timestamp : ℕ) (p : List ℕ)
+    → offered v s source sequence timestamp p .session ≡ withGroup s (offered v s source sequence timestamp p .session .group)
+unfolding refuse withGroup
+only-group v s source sequence timestamp p = go (offered v s source sequence timestamp p) (offer-ends v s source sequence timestamp p)
+  where
+    go : (o : Offered) → Ends v s source sequence timestamp p o → o .session ≡ withGroup s (o .session .group)
+    go o (refuses r e) = rw e
+    go o (places i j l n d fs q x) = placed-group (v .shape) s (arrival (v .shape) sequence timestamp l n fs) o x

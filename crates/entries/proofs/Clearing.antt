@@ -13,7 +13,7 @@ use borrow.Author.Tests.{ltb-false}
 use Rattle.octets.proofs.Logic.{apart}
 use Rattle.frame.specs.FrameTable.{Frame, known, size}
 use Rattle.entries.specs.Kind.{Kind}
-use Rattle.entries.specs.Entries.{EntriesRead, frames, put, frameOf, entries, allowed, entriesIn, entriesOf}
+use Rattle.entries.specs.Entries.{EntriesRead, frames, put, frameOf, entries, allowed, entriesFrom, entriesIn, entriesOf}
 use Rattle.entries.specs.Entries.{cleared}
 use Rattle.entries.specs.declared.Rule.{Rule}
 use Rattle.entries.specs.declared.Rule.the-variants.{Any}
@@ -75,24 +75,25 @@ module _ (kind : Kind) (es : List ℕ) (i : ℕ) (h : i < length es) where
   clears-octet zero e p = let x = split ∙ e ∙ ap (cleared kind 0) after in record { here = cc; rest = cc }
   clears-octet (suc l) e p = absurd (omega arith)
 
--- what is read under a rule is read as the same frames under none
-any-entry : (at : ℕ) (f : Frame) (w u : EntriesRead) (fs : List Frame) (good short fine : Bool) → ((gs : List Frame) → w ≡ frames gs → u ≡ frames gs) →
+-- what is read under a rule is read as the same frames under none, from whatever octet on places are counted
+any-entry : (at to : ℕ) (f : Frame) (w u : EntriesRead) (fs : List Frame) (good short fine : Bool) → ((gs : List Frame) → w ≡ frames gs → u ≡ frames gs) →
     entryIf at f w good short fine ≡ frames fs →
-    entryIf at f u good short true ≡ frames fs
-any-entry at f w u fs false short fine i h = apart (cc)
-any-entry at f w u fs true true fine i h = apart (cc)
-any-entry at f w u fs true false false i h = apart (cc)
-any-entry at f w u fs true false true i h =
+    entryIf to f u good short true ≡ frames fs
+any-entry at to f w u fs false short fine i h = apart (cc)
+any-entry at to f w u fs true true fine i h = apart (cc)
+any-entry at to f w u fs true false false i h = apart (cc)
+any-entry at to f w u fs true false true i h =
     let x = unput f fs w h in
     ap (put f) (i (x .0) (x .2)) ∙ ap frames (sym (x .1))
 
-any-reads : (kind : Kind) (ok : Frame → Bool) (at n : ℕ) (es : List ℕ) (fs : List Frame) → entries kind ok at n es ≡ frames fs → entries kind (allowed (kind .table) Any) at n es ≡ frames fs
+any-reads : (kind : Kind) (ok : Frame → Bool) (at to n : ℕ) (es : List ℕ) (fs : List Frame) → entries kind ok at n es ≡ frames fs → entries kind (allowed (kind .table) Any) to n es ≡ frames fs
 unfolding entries allowed
-any-reads kind ok at n [] fs e = e
-any-reads kind ok at (suc n) (x ∷ es) fs e = any-reads kind ok (at + 1) n es fs e
-any-reads kind ok at zero (x ∷ es) fs e =
-    any-entry at (frameOf kind x es) (entries kind ok (at + 1) (size (kind .table) (kind .typeOf x)) es) (entries kind (allowed (kind .table) Any) (at + 1) (size (kind .table) (kind .typeOf x)) es) fs
-    (known (kind .table) (kind .typeOf x)) (ltb (length es) (size (kind .table) (kind .typeOf x))) (ok (frameOf kind x es)) (any-reads kind ok (at + 1) (size (kind .table) (kind .typeOf x)) es) e
+any-reads kind ok at to n [] fs e = e
+any-reads kind ok at to (suc n) (x ∷ es) fs e = any-reads kind ok (at + 1) (to + 1) n es fs e
+any-reads kind ok at to zero (x ∷ es) fs e =
+    let s = size (kind .table) (kind .typeOf x) in
+    any-entry at to (frameOf kind x es) (entries kind ok (at + 1) s es) (entries kind (allowed (kind .table) Any) (to + 1) s es) fs
+    (known (kind .table) (kind .typeOf x)) (ltb (length es) s) (ok (frameOf kind x es)) (any-reads kind ok (at + 1) (to + 1) s es) e
 
-pub read-any : (kind : Kind) (rule : Rule) (es : List ℕ) (fs : List Frame) → entriesIn kind rule es ≡ frames fs → entriesIn kind Any es ≡ frames fs
-read-any kind rule es fs e = any-reads kind (allowed (kind .table) rule) 0 0 es fs e
+pub read-any : (kind : Kind) (rule : Rule) (at : ℕ) (es : List ℕ) (fs : List Frame) → entriesFrom kind rule at es ≡ frames fs → entriesIn kind Any es ≡ frames fs
+read-any kind rule at es fs e = any-reads kind (allowed (kind .table) rule) at 0 0 es fs e

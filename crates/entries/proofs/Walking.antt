@@ -13,7 +13,6 @@ use Rattle.octets.proofs.Logic.{apart}
 use Rattle.frame.specs.FrameTable.{FrameTable, Frame, rowOf, sendable}
 use Rattle.frame.specs.declared.Row.{Row}
 use Rattle.frame.specs.declared.Lookup.the-variants.{Found, Missing}
-use Rattle.answers.specs.Faults.{faultAt, faultPlain}
 use Rattle.answers.specs.declared.Refusal.the-variants.{ReservedType, NotSendable, BodyCut}
 use Rattle.entries.specs.Kind.{Kind}
 use Rattle.entries.specs.Entries.{EntriesRead, frames, refusedEntries, put, entries, allowed}
@@ -39,7 +38,7 @@ unput g fs (refusedEntries fault) e = apart (cc)
 -- the entries whose first stands at a place, by whether its type is known, its body cut short, and its frame allowed
 abbrev pub entryIf : ℕ → Frame → EntriesRead → Bool → Bool → Bool → EntriesRead
 entryIf at f w good short fine =
-    cond good (cond short (refusedEntries (faultAt at BodyCut)) (cond fine (put f w) (refusedEntries (faultPlain NotSendable)))) (refusedEntries (faultAt at ReservedType))
+    cond good (cond short (refusedEntries (BodyCut at)) (cond fine (put f w) (refusedEntries NotSendable))) (refusedEntries (ReservedType at))
 
 -- to skip octets is to drop them
 pub skips : (kind : Kind) (ok : Frame → Bool) (at n : ℕ) (es : List ℕ) → entries kind ok at n es ≡ entries kind ok (at + n) 0 (drop n es)
@@ -62,12 +61,12 @@ module _ (kind : Kind) (ok : Frame → Bool) (p : List ℕ) (at : ℕ) where
   ended h = rw (drop-of-length-le p h)
 
   module _ (h : at < length p) where
-    pub not-known : rowOf (kind .table) (kind .typeOf (getD p at 0)) ≡ Missing → entriesAt kind ok p at ≡ refusedEntries (faultAt at ReservedType)
+    pub not-known : rowOf (kind .table) (kind .typeOf (getD p at 0)) ≡ Missing → entriesAt kind ok p at ≡ refusedEntries (ReservedType at)
     unfolding entries
     not-known k = simp (drop-cons p at 0 h, k)
 
     module _ (r : Row) (k : rowOf (kind .table) (kind .typeOf (getD p at 0)) ≡ Found r) where
-      pub body-cut : length p - (at + 1) < r .octets → entriesAt kind ok p at ≡ refusedEntries (faultAt at BodyCut)
+      pub body-cut : length p - (at + 1) < r .octets → entriesAt kind ok p at ≡ refusedEntries (BodyCut at)
       unfolding entries
       body-cut s =
           let a : length (drop (suc at) p) < r .octets = omega (arith, length-drop (suc at) p) in
@@ -80,7 +79,7 @@ module _ (kind : Kind) (ok : Frame → Bool) (p : List ℕ) (at : ℕ) where
         body-is : take (at + 1 + r .octets - (at + 1)) (drop (at + 1) p) ≡ take (r .octets) (drop (suc at) p)
         body-is = simp (add-sub-cancel-left, add-one)
 
-        pub not-allowed : ok (entryAt kind p at (r .octets)) ≡ false → entriesAt kind ok p at ≡ refusedEntries (faultPlain NotSendable)
+        pub not-allowed : ok (entryAt kind p at (r .octets)) ≡ false → entriesAt kind ok p at ≡ refusedEntries NotSendable
         unfolding entries
         not-allowed g =
             let g′ : ok (record { type = kind .typeOf (getD p at 0); body = take (r .octets) (drop (suc at) p) }) ≡ false = rw body-is at g in

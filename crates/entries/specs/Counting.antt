@@ -8,9 +8,9 @@ use Rattle.entries.specs.declared.Counted.the-variants as counted
 -- the number of frames, or the refusal
 unfoldable pub countedOf : EntriesRead → Counted
 countedOf (frames fs) = counted.Frames (length fs)
-countedOf (refusedEntries f) = counted.Refused (f .refusal)
+countedOf (refusedEntries r) = counted.Refused r
 
 -- what the walk over the entries yields, after c of them
 unfoldable pub countedFrom : ℕ → EntriesRead → Counted
 countedFrom c (frames fs) = counted.Frames (c + length fs)
-countedFrom c (refusedEntries f) = counted.Refused (f .refusal)
+countedFrom c (refusedEntries r) = counted.Refused r

@@ -5,21 +5,21 @@ use mathlib.Core.Bool.{Bool, true, cond, _&&_}
 use lib.Dec.{ltb}
 use lib.ListN.{length, take}
 use Rattle.frame.specs.FrameTable.{FrameTable, Frame, known, size, sendable}
-use Rattle.answers.specs.Faults.{Fault, faultAt, faultPlain}
+use Rattle.answers.specs.declared.Refusal.{Refusal}
 use Rattle.answers.specs.declared.Refusal.the-variants.{ReservedType, NotSendable, BodyCut}
 use Rattle.entries.specs.Kind.{Kind}
 use Rattle.entries.specs.declared.Rule.{Rule}
 use Rattle.entries.specs.declared.Rule.the-variants.{Any, Sendable, HeaderFree}
 
--- what entries are read as: their frames, or the fault
+-- what entries are read as: their frames, or the refusal
 pub data EntriesRead : Type 0 where
   frames : List Frame → EntriesRead
-  refusedEntries : Fault → EntriesRead
+  refusedEntries : Refusal → EntriesRead
 
 -- frames with one before them; a fault stays one
 abbrev pub put : Frame → EntriesRead → EntriesRead
 put f (frames fs) = frames (f ∷ fs)
-put f (refusedEntries fault) = refusedEntries fault
+put f (refusedEntries r) = refusedEntries r
 
 -- the frame of an entry octet; "F and D of an entry are ignored when read"
 abbrev pub frameOf : Kind → ℕ → List ℕ → Frame
@@ -32,10 +32,10 @@ entries kind ok at skip [] = frames []
 entries kind ok at (suc skip) (x ∷ es) = entries kind ok (at + 1) skip es
 entries kind ok at zero (e ∷ es) =
     cond (known (kind .table) (kind .typeOf e))
-    (cond (ltb (length es) (size (kind .table) (kind .typeOf e))) (refusedEntries (faultAt at BodyCut))
+    (cond (ltb (length es) (size (kind .table) (kind .typeOf e))) (refusedEntries (BodyCut at))
     (cond (ok (frameOf kind e es)) (put (frameOf kind e es) (entries kind ok (at + 1) (size (kind .table) (kind .typeOf e)) es))
-    (refusedEntries (faultPlain NotSendable))))
-    (refusedEntries (faultAt at ReservedType))
+    (refusedEntries NotSendable)))
+    (refusedEntries (ReservedType at))
 
 -- which frames a reader or writer takes: a recording any; a packet those that are sendable; the header-free writer has "17 for Blank too"
 unfoldable pub allowed : FrameTable → Rule → Frame → Bool
@@ -54,7 +54,7 @@ entriesIn kind rule es = entriesFrom kind rule 0 es
 -- the frames, none on a refusal
 unfoldable pub framesIn : EntriesRead → List Frame
 framesIn (frames fs) = fs
-framesIn (refusedEntries f) = []
+framesIn (refusedEntries r) = []
 
 -- frames as entries, F and D "0 when written"
 abbrev pub entriesOf : List Frame → List ℕ

@@ -4,13 +4,13 @@ use frame::Lookup;
 use frame::Vocoder;
 ghost use mathlib.Core.Path.{_≡_};
 ghost use Prim.Native.Nat.{_+_, _<_, _≤_};
-ghost use lib.ListN.{length, take};
+ghost use lib.ListN.{length, take, drop};
 ghost use Rattle.frame.specs.FrameTable.{rowsOf};
 ghost use Rattle.frame.specs.Places.{taken};
 ghost use Rattle.octets.specs.Octets.{over};
 ghost use Rattle.entries.specs.Counting.{countedOf};
 ghost use Rattle.entries.specs.Kind.{kindOf};
-ghost use Rattle.entries.specs.Entries.{allowed, entriesIn, framesIn, cleared};
+ghost use Rattle.entries.specs.Entries.{allowed, entriesFrom, entriesIn, framesIn, cleared};
 
 // How many frames there are, or the refusal.
 pub enum Counted {
@@ -41,12 +41,12 @@ fn allows(vocoder: Vocoder, rule: Rule, kind: u8, body: &[u8]) -> bool
     }
 }
 
-// The walk over entries, which ends at the first fault it meets.
-pub fn count(vocoder: Vocoder, rule: Rule, entries: &[u8]) -> Counted
-    ensures { λ r. ⌜ r ≡ countedOf (entriesIn (kindOf vocoder) rule (now (entries .entry))) ⌝ }
+// The walk over the entries that stand from an octet on, which ends at the first fault it meets. A place is counted in all the octets.
+pub fn count(vocoder: Vocoder, rule: Rule, entries: &[u8], from: usize) -> Counted
+    ensures { λ r. ⌜ r ≡ countedOf (entriesFrom (kindOf vocoder) rule from (drop from (now (entries .entry)))) ⌝ }
 {
     let mut n: usize = 0;
-    let mut at: usize = 0;
+    let mut at = from;
     'entries: loop {
         if entries.len() <= at {
             break 'entries Counted::Frames(n);
@@ -55,13 +55,13 @@ pub fn count(vocoder: Vocoder, rule: Rule, entries: &[u8]) -> Counted
         let found = frame::row_of(vocoder, kind);
         match found {
             Lookup::Missing => {
-                break 'entries Counted::Refused(Refusal::ReservedType);
+                break 'entries Counted::Refused(Refusal::ReservedType(at));
             }
             Lookup::Found(row) => {
                 let start = at + 1;
                 let octets = row.octets;
                 if entries.len() - start < octets {
-                    break 'entries Counted::Refused(Refusal::BodyCut);
+                    break 'entries Counted::Refused(Refusal::BodyCut(at));
                 }
                 let next = start + octets;
                 let good = allows(vocoder, rule, kind, &entries[start..next]);

@@ -14,7 +14,6 @@ use denote.Ref.{RefT, now, ptr}
 use borrow.Author.Tests.{le-leb, lt-leb, lt-ltb, le-ltb, ltb-true, ltb-false}
 use Rattle.octets.proofs.Logic.{apart}
 use Rattle.octets.proofs.OctetsLaws.{part-is}
-use Rattle.answers.specs.Faults.{Fault}
 use Rattle.answers.specs.declared.Refusal.{Refusal}
 use Rattle.answers.specs.declared.Refusal.the-variants.{NotApplicable}
 use Rattle.frame.specs.FrameTable.{Frame, typesOf, Every}
@@ -154,7 +153,7 @@ LaidIn p (refusedFrames f) = Unit {0}
 -- so the part of a located frame is its body, and starts where it was said to; of a refusal it is empty
 part-body : (p : List ℕ) (g : Given) (k : ℕ) → LaidIn p g → (partOf (locatedOf g k) p ≡ bodyOf g k) × (partStart (locatedOf g k) p ≡ startOf (locatedOf g k))
 unfolding locatedOf bodyOf liesIn
-part-body p (refusedFrames f) k h = let j = not-there (Refused (f .refusal)) p refl in (sym (j .0), sym (j .1))
+part-body p (refusedFrames f) k h = let j = not-there (Refused f) p refl in (sym (j .0), sym (j .1))
 part-body p (frames head gap fs) k h = go (ltb k (length fs)) refl
   where
     go :
@@ -184,9 +183,9 @@ very-body o r g k l h e x =
     }
 
 -- frame k is asked for
-pub asked-refused : (f : Fault) (k : ℕ) → Refused (f .refusal) ≡ locatedOf (refusedFrames f) k
+pub asked-refused : (r : Refusal) (k : ℕ) → Refused r ≡ locatedOf (refusedFrames r) k
 unfolding locatedOf
-asked-refused f k = refl
+asked-refused r k = refl
 
 pub asked-past : (head gap : ℕ) (fs : List Frame) (k : ℕ) → length fs ≤ k → Refused NotApplicable ≡ locatedOf (frames head gap fs) k
 unfolding locatedOf

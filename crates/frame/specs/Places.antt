@@ -6,7 +6,7 @@ use mathlib.Core.Bool.{Bool, false, cond, _&&_}
 use lib.Dec.{leb, ltb}
 use lib.ListN.{length, take, drop, getD}
 use denote.Ref.{RefT, now, ptr}
-use Rattle.answers.specs.Faults.{Fault}
+use Rattle.answers.specs.declared.Refusal.{Refusal}
 use Rattle.answers.specs.declared.Refusal.the-variants.{NotApplicable}
 use Rattle.frame.specs.FrameTable.{Frame}
 use Rattle.frame.specs.declared.Located.{Located}
@@ -20,7 +20,7 @@ upTo f (suc n) = upTo f n ++ (f n ∷ [])
 -- what a reader gives: its refusal, or frames that lie in order behind `head` octets, with `gap` octets before each body
 pub data Given : Type 0 where
   frames : (head gap : ℕ) → List Frame → Given
-  refusedFrames : Fault → Given
+  refusedFrames : Refusal → Given
 
 -- the octets that frames take, with `gap` octets before each body
 abbrev pub taken : ℕ → List Frame → ℕ
@@ -37,7 +37,7 @@ frameAt fs k = getD fs k noFrame
 
 -- "A frame is asked for by its number; one not below the frame count answers 21."
 unfoldable pub locatedOf : Given → ℕ → Located
-locatedOf (refusedFrames f) k = Refused (f .refusal)
+locatedOf (refusedFrames r) k = Refused r
 locatedOf (frames head gap fs) k =
     cond (ltb k (length fs))
     (At (frameAt fs k .type) (head + taken gap (take k fs) + gap) (length (frameAt fs k .body)))
@@ -45,7 +45,7 @@ locatedOf (frames head gap fs) k =
 
 -- "A refusal's part is empty."
 unfoldable pub bodyOf : Given → ℕ → List ℕ
-bodyOf (refusedFrames f) k = []
+bodyOf (refusedFrames r) k = []
 bodyOf (frames head gap fs) k = frameAt fs k .body
 
 -- where a frame's body begins

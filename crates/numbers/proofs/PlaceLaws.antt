@@ -8,6 +8,7 @@ use lib.Dec.{eqb, leb, ltb}
 use mir.Val.{Fits}
 use mir.Syntax.{w64}
 use borrow.Author.Tests.{eq-eqb, ne-eqb, eqb-true, le-leb, lt-leb, lt-ltb, le-ltb, ltb-false}
+use Rattle.answers.specs.Answers.{numberOf}
 use Rattle.answers.specs.declared.Refusal.{Refusal}
 use Rattle.answers.specs.declared.Refusal.the-variants.{ContradictsGroup, LaterGroup, EarlierGroup, TooFarAhead}
 use Rattle.numbers.specs.Place.{differ, atDistance, distance, withHeld, afterGap, gap, afterPoured, decided}
@@ -123,7 +124,7 @@ held-ends held new = by-distance (eqb d 0) (leb d (held .l)) (leb d 32767)
     by-distance false false false = refused EarlierGroup refl
 
 pub data PouredEnds (poured new : GroupNumbers) (w : Verdict) : Type 0 where
-  refused : (r : Refusal) → w ≡ Refused r → PouredEnds poured new w
+  refused : (r : Refusal) → eqb (numberOf r) 12 ≡ false → w ≡ Refused r → PouredEnds poured new w
   follows : (lost : ℕ) → lost ≡ gap poured new * poured .b → lost ≤ 100 * poured .b → w ≡ Begins lost → PouredEnds poured new w
 
 pub poured-ends : (poured new : GroupNumbers) → PouredEnds poured new (afterPoured poured new)
@@ -135,7 +136,7 @@ poured-ends poured new = by-gap (leb 32768 e) (ltb 100 e) refl
 
     by-gap : (x y : Bool) → ltb 100 e ≡ y
         → PouredEnds poured new (cond x (Refused EarlierGroup) (cond y (Refused TooFarAhead) (Begins (e * poured .b))))
-    by-gap true y q = refused EarlierGroup refl
-    by-gap false true q = refused TooFarAhead refl
+    by-gap true y q = refused EarlierGroup refl refl
+    by-gap false true q = refused TooFarAhead refl refl
     by-gap false false q =
         follows (e * poured .b) refl (mul-le-mul {n₁ = e} {m₁ = poured .b} {n₂ = 100} {m₂ = poured .b} (ltb-false 100 e q) (le-refl _)) refl

@@ -16,7 +16,7 @@ use Rattle.form.specs.declared.Limits.{Limits}
 use Rattle.form.specs.declared.Opened.the-variants as limits
 use Rattle.form.specs.declared.Form.the-variants.{HeaderFree, Interleaved}
 use Rattle.answers.specs.declared.Refusal.{Refusal}
-use Rattle.answers.specs.declared.Refusal.the-variants.{IndexPastLength, LengthPastMaximum, TooManyFrames}
+use Rattle.answers.specs.declared.Refusal.the-variants.{IndexPastLength, LengthPastMaximum, BundleOutOfRange}
 use Rattle.answers.specs.declared.Refusal.the-variants.{NotSendable, NotApplicable}
 use Rattle.form.proofs.AgreedLaws.{opened-agreed, opened-refused, range-bounds}
 use Rattle.entries.specs.Kind.{Kind}
@@ -43,11 +43,11 @@ module _ (kind : Kind) (m : Limits) (l n b d : ℕ) (es : List ℕ) where
     within-length k = simp (le-ltb _ _ h, lt-ltb _ _ k)
 
     module _ (k : l ≤ m .«max_l») where
-      pub within-none : b < 1 → packetWithin kind m l n b d es ≡ refusedOutput TooManyFrames
+      pub within-none : b < 1 → packetWithin kind m l n b d es ≡ refusedOutput BundleOutOfRange
       unfolding packetWithin
       within-none q = simp (le-ltb _ _ h, le-ltb _ _ k, lt-leb _ _ q)
 
-      pub within-many : 1 ≤ b → m .«max_b» < b → packetWithin kind m l n b d es ≡ refusedOutput TooManyFrames
+      pub within-many : 1 ≤ b → m .«max_b» < b → packetWithin kind m l n b d es ≡ refusedOutput BundleOutOfRange
       unfolding packetWithin
       within-many p q = simp (le-ltb _ _ h, le-ltb _ _ k, le-leb _ _ p, lt-leb _ _ q)
 
@@ -82,7 +82,7 @@ module _ (l n b d : ℕ) (w : EntriesRead) where
   group-refused r e = go w e
     where
       go : (u : EntriesRead) → counted.Refused r ≡ countedOf u → packetOfGroup l n b d u ≡ refusedOutput r
-      go (entry.refusedEntries f) x = let y : f .refusal ≡ r = cc in ap refusedOutput y
+      go (entry.refusedEntries f) x = let y : f ≡ r = cc in ap refusedOutput y
       go (frames fs) x = apart (cc)
 
   module _ (c : ℕ) (e : counted.Frames c ≡ countedOf w) where
@@ -109,7 +109,7 @@ pub group-made : (kind : Kind) (l n b d c : ℕ) (es : List ℕ) → counted.Fra
 unfolding packetOfGroup framesIn
 group-made kind l n b d c es e h =
     let x = frames-of l n b d (entriesIn kind rule.Sendable es) c e in
-    let y : entriesIn kind rule.Any es ≡ frames (x .0) = read-any kind rule.Sendable es (x .0) (x .1) in
+    let y : entriesIn kind rule.Any es ≡ frames (x .0) = read-any kind rule.Sendable 0 es (x .0) (x .1) in
     let z : length (x .0) ≡ (l + 1) * b = sym (x .2) ∙ h in
     let g : groupIn kind es ≡ x .0 = ap framesIn y in
     record { made = rw (x .1, eq-eqb (length (x .0)) ((l + 1) * b) z) (ap (λ (fs : List Frame). octets (packed l n d (packetFrames l n b fs))) (sym g)); count = sym z ∙ ap length (sym g) }
@@ -117,7 +117,7 @@ group-made kind l n b d c es e h =
 -- ---- the header-free writer
 pub body-refused : (w : EntriesRead) (r : Refusal) → counted.Refused r ≡ countedOf w → oneBody w ≡ refusedOutput r
 unfolding oneBody countedOf
-body-refused (entry.refusedEntries f) r x = let y : f .refusal ≡ r = cc in ap refusedOutput y
+body-refused (entry.refusedEntries f) r x = let y : f ≡ r = cc in ap refusedOutput y
 body-refused (frames fs) r x = apart (cc)
 
 pub body-count : (w : EntriesRead) (c : ℕ) → counted.Frames c ≡ countedOf w → (c ≡ 1 → ⊥) → oneBody w ≡ refusedOutput NotSendable

@@ -105,7 +105,7 @@ fn write_group(
     requires { ⌜ (l ≤ 7) × (n ≤ l) × (1 ≤ b) × (b ≤ 10) × (d ≤ 1) ⌝ }
     ensures { λ r. ⌜ Writes (packetOfGroup l n b d (entriesIn (kindOf vocoder) Rule.Sendable (now (entries .entry)))) (now (out .entry)) r (now (out .exit)) ⌝ }
 {
-    let held = entries::count(vocoder, Rule::Sendable, entries);
+    let held = entries::count(vocoder, Rule::Sendable, entries, 0);
     match held {
         Counted::Refused(r) => Written::Refused(r),
         Counted::Frames(count) => {
@@ -148,10 +148,10 @@ fn write_within(
         return Written::Refused(Refusal::LengthPastMaximum);
     }
     if b < 1 {
-        return Written::Refused(Refusal::TooManyFrames);
+        return Written::Refused(Refusal::BundleOutOfRange);
     }
     if limits.max_b < b {
-        return Written::Refused(Refusal::TooManyFrames);
+        return Written::Refused(Refusal::BundleOutOfRange);
     }
     write_group(vocoder, l, n, b, d, entries, out)
 }
@@ -212,7 +212,7 @@ pub fn write_agreed(l: u8, n: u8, b: u8, d: u8, entries: &[u8], out: &mut [u8]) 
 fn write_body(vocoder: Vocoder, entries: &[u8], out: &mut [u8]) -> Written
     ensures { λ r. ⌜ Writes (oneBody (entriesIn (kindOf vocoder) Rule.HeaderFree (now (entries .entry)))) (now (out .entry)) r (now (out .exit)) ⌝ }
 {
-    let held = entries::count(vocoder, Rule::HeaderFree, entries);
+    let held = entries::count(vocoder, Rule::HeaderFree, entries, 0);
     match held {
         Counted::Refused(r) => Written::Refused(r),
         Counted::Frames(count) => {

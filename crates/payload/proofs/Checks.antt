@@ -1,12 +1,14 @@
 -- Reading a payload, a check at a time: each law is the answer of one way out of the readers. Assumes nothing.
-use Prim.Native.Nat.{ℕ, suc, _-_, _≤_, _<_}
-use mathlib.Core.Path.{_≡_, refl, sym, ap, _∙_}
-use mathlib.Core.List.{List, [], _∷_}
+use Prim.Native.Nat.{ℕ, suc, _+_, _-_, _≤_, _<_}
+use mathlib.Core.Path.{_≡_, refl, sym, ap, ap₂, _∙_}
+use mathlib.Core.List.{List, [], _∷_, map}
 use mathlib.Core.Bool.{cond}
 use native.Mathlib.Omega.{arith}
 use lib.Dec.{ltb}
-use lib.ListN.{length, drop, getD, length-drop}
+use lib.ListN.{length, take, drop, getD, length-drop}
+use lib.Seq.{drop-drop}
 use borrow.Author.Tests.{lt-ltb, le-ltb}
+use Rattle.frame.specs.Entry.{typeOf}
 use Rattle.frame.specs.FrameTable.{FrameTable, size, rowOfSize}
 use Rattle.frame.specs.declared.Row.{Row}
 use Rattle.frame.specs.declared.Lookup.the-variants.{Found, Missing}
@@ -14,13 +16,12 @@ use Rattle.form.specs.Agreed.{opened}
 use Rattle.form.specs.declared.Limits.{Limits}
 use Rattle.form.specs.declared.Opened.the-variants as limits
 use Rattle.form.specs.declared.Form.the-variants.{HeaderFree, Interleaved}
-use Rattle.answers.specs.Faults.{faultPlain}
 use Rattle.answers.specs.declared.Refusal.{Refusal}
 use Rattle.answers.specs.declared.Refusal.the-variants.{NoOctet, IndexPastLength, LengthPastMaximum, BodiesCut, OctetsLeft}
 use Rattle.answers.specs.declared.Refusal.the-variants.{HeaderFreeLength}
 use Rattle.form.proofs.AgreedLaws.{opened-agreed, opened-refused}
 use Rattle.octets.proofs.Logic.{apart}
-use Rattle.payload.specs.Payload.{Reading, refusedPayload, Toc, contents, fault, toc, total, cut, bodies, interleaved, oneBody}
+use Rattle.payload.specs.Payload.{Reading, refusedPayload, Toc, contents, fault, toc, total, cut, firstCut, bodies, interleaved, oneBody}
 use Rattle.payload.specs.Payload.{readAs, lOf, nOf}
 use Rattle.payload.specs.Shown.{contentsOf, walked}
 use Rattle.payload.specs.declared.Contents.the-variants.{Packet, Refused}
@@ -29,8 +30,8 @@ use Rattle.payload.proofs.Tables.{Counted, counted}
 
 headed : FrameTable → Limits → ℕ → List ℕ → Reading
 headed v m h es =
-    cond (ltb (lOf h) (nOf h)) (refusedPayload (faultPlain IndexPastLength))
-    (cond (ltb (m .«max_l») (lOf h)) (refusedPayload (faultPlain LengthPastMaximum))
+    cond (ltb (lOf h) (nOf h)) (refusedPayload IndexPastLength)
+    (cond (ltb (m .«max_l») (lOf h)) (refusedPayload LengthPastMaximum)
     (bodies v (lOf h) (nOf h) (toc v (m .«max_b») 0 1 es)))
 
 has-head : (v : FrameTable) (m : Limits) (p : List ℕ) → 1 ≤ length p → interleaved v m p ≡ headed v m (getD p 0 0) (drop 1 p)
@@ -80,18 +81,20 @@ module _ (v : FrameTable) (m : Limits) (p : List ℕ) (h : 1 ≤ length p) where
         left : length (yields .rest) ≡ length p - 1 - c
         left = yields .left ∙ ap (λ (n : ℕ). n - c) (length-drop 1 p)
 
-        pub bodies-cut : length p - 1 - c < s → Refused BodiesCut ≡ contentsOf (interleaved v m p)
+        pub bodies-cut : (at : ℕ) → at ≡ firstCut v (1 + c) (take c (map typeOf (drop 1 p))) (drop (1 + c) p) →
+            length p - 1 - c < s → Refused (BodiesCut at) ≡ contentsOf (interleaved v m p)
         unfolding bodies contentsOf
-        bodies-cut k =
+        bodies-cut at q k =
             let a : length (yields .rest) < total v (yields .ts) = omega (arith, left, yields .octets) in
-            rw (begun, yields .is, lt-ltb _ _ a)
+            let f : yields .rest ≡ drop (1 + c) p = yields .follow ∙ drop-drop c 1 p in
+            rw (begun, yields .is, lt-ltb _ _ a) (ap (λ (x : ℕ). Refused (BodiesCut x)) (rw (yields .begins, yields .types, f) q))
 
-        pub octets-left : s < length p - 1 - c → Refused OctetsLeft ≡ contentsOf (interleaved v m p)
+        pub octets-left : s < length p - 1 - c → Refused (OctetsLeft (1 + c + s)) ≡ contentsOf (interleaved v m p)
         unfolding bodies contentsOf
         octets-left k =
             let a : total v (yields .ts) < length (yields .rest) = omega (arith, left, yields .octets) in
             let b : total v (yields .ts) ≤ length (yields .rest) = omega arith in
-            rw begun (simp (yields .is, le-ltb _ _ b, lt-ltb _ _ a))
+            rw begun (simp (yields .is, le-ltb _ _ b, lt-ltb _ _ a) (ap₂ (λ (x y : ℕ). Refused (OctetsLeft (x + y))) (sym (yields .begins)) (yields .octets)))
 
         pub exact : s ≤ length p - 1 - c → length p - 1 - c ≤ s → Packet (lOf (getD p 0 0)) (nOf (getD p 0 0)) c d ≡ contentsOf (interleaved v m p)
         unfolding bodies contentsOf

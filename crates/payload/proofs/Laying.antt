@@ -20,7 +20,6 @@ use Rattle.frame.specs.declared.Lookup.{Lookup}
 use Rattle.frame.specs.declared.Lookup.the-variants.{Found, Missing}
 use Rattle.form.specs.declared.Form.{Form}
 use Rattle.form.specs.declared.Form.the-variants.{HeaderFree, Interleaved}
-use Rattle.answers.specs.Faults.{Fault, faultPlain}
 use Rattle.answers.specs.declared.Refusal.{Refusal}
 use Rattle.answers.specs.declared.Refusal.the-variants.{NotApplicable, HeaderFreeLength}
 use Rattle.frame.specs.declared.Located.the-variants as located
@@ -40,7 +39,7 @@ total-suc v (t ∷ ts) zero h = omega arith
 total-suc v (t ∷ ts) (suc k) h = let i = total-suc v ts k (le-of-suc-le-suc h) in omega arith
 
 -- entry i of the table of contents
-type-at : (p : List ℕ) (i : ℕ) → getD (map typeOf (drop 1 p)) i 0 ≡ typeOf (getD p (i + 1) 0)
+pub type-at : (p : List ℕ) (i : ℕ) → getD (map typeOf (drop 1 p)) i 0 ≡ typeOf (getD p (i + 1) 0)
 type-at p i = List·getD-map typeOf (drop 1 p) i 0 ∙ ap typeOf (getD-drop 1 p i 0 ∙ ap (λ (k : ℕ). getD p k 0) (add-comm 1 i))
 
 pub start-next : (v : FrameTable) (p : List ℕ) (i : ℕ) → i + 1 < length p →
@@ -55,13 +54,13 @@ cut-type v [] bs k = refl
 cut-type v (t ∷ ts) bs zero = refl
 cut-type v (t ∷ ts) bs (suc k) = cut-type v ts (drop (size v t) bs) k
 
-cut-size : (v : FrameTable) (ts bs : List ℕ) (k : ℕ) → total v ts ≤ length bs → k < length ts → length (frameAt (cut v ts bs) k .body) ≡ size v (getD ts k 0)
+pub cut-size : (v : FrameTable) (ts bs : List ℕ) (k : ℕ) → total v ts ≤ length bs → k < length ts → length (frameAt (cut v ts bs) k .body) ≡ size v (getD ts k 0)
 cut-size v [] bs k h q = absurd (omega arith)
 cut-size v (t ∷ ts) bs zero h q = length-take-le (size v t) bs (omega arith)
 cut-size v (t ∷ ts) bs (suc k) h q =
     cut-size v ts (drop (size v t) bs) k (omega (arith, length-drop (size v t) bs)) (le-of-suc-le-suc q)
 
-cut-taken : (v : FrameTable) (ts bs : List ℕ) (k : ℕ) → total v ts ≤ length bs → taken 0 (take k (cut v ts bs)) ≡ total v (take k ts)
+pub cut-taken : (v : FrameTable) (ts bs : List ℕ) (k : ℕ) → total v ts ≤ length bs → taken 0 (take k (cut v ts bs)) ≡ total v (take k ts)
 cut-taken v ts bs zero h = refl
 cut-taken v [] bs (suc k) h = refl
 cut-taken v (t ∷ ts) bs (suc k) h =
@@ -79,7 +78,7 @@ cut-laid v (t ∷ ts) p h q =
     )
 
 -- ---- a payload that was read as a packet
-passed : (b : Bool) (f : Fault) (x : Reading) (l n d : ℕ) (fs : List Frame) → cond b (refusedPayload f) x ≡ packet l n d fs → (b ≡ false) × (x ≡ packet l n d fs)
+passed : (b : Bool) (f : Refusal) (x : Reading) (l n d : ℕ) (fs : List Frame) → cond b (refusedPayload f) x ≡ packet l n d fs → (b ≡ false) × (x ≡ packet l n d fs)
 passed true f x l n d fs e = apart (cc)
 passed false f x l n d fs e = (refl, e)
 
@@ -97,7 +96,7 @@ pub record Framed (v : FrameTable) (m : Limits) (p : List ℕ) (l n d : ℕ) (fs
   pub index : nOf head ≤ lOf head
   pub short : lOf head ≤ m .«max_l»
   pub toc-is : toc v (m .«max_b») 0 1 es ≡ contents ts d behind rest
-  pub whole : Whole (m .«max_b») 0 es ts rest
+  pub whole : Whole (m .«max_b») 0 1 es ts behind rest
   pub full : length rest ≡ total v ts
   pub frames : fs ≡ cut v ts rest
 
@@ -108,7 +107,7 @@ framed-table :
     lOf x ≤ m .«max_l» →
     (w : Toc) →
     toc v (m .«max_b») 0 1 es ≡ w →
-    Sound (m .«max_b») 0 es w →
+    Sound (m .«max_b») 0 1 es w →
     bodies v (lOf x) (nOf x) w ≡ packet l n d fs →
     Framed v m (x ∷ es) l n d fs
 unfolding bodies
@@ -146,7 +145,7 @@ framed v m p l n d fs e = at-range (inRange m) refl e
         let b = passed (ltb (m .«max_l») (lOf x)) _ _ l n d fs (a .1) in
         framed-table v m l n d x es fs g (ltb-false _ _ (a .0)) (ltb-false _ _ (b .0)) (toc v (m .«max_b») 0 1 es) refl (toc-sound v (m .«max_b») 0 1 es) (b .1)
 
-    at-range : (b : Bool) → inRange m ≡ b → cond b (interleaved v m p) (refusedPayload (faultPlain NotApplicable)) ≡ packet l n d fs → Framed v m p l n d fs
+    at-range : (b : Bool) → inRange m ≡ b → cond b (interleaved v m p) (refusedPayload NotApplicable) ≡ packet l n d fs → Framed v m p l n d fs
     at-range true g k = at-list g p k
     at-range false g k = apart (cc)
 
@@ -212,7 +211,7 @@ stands v m p l n d fs k o h =
 -- ---- frame k is asked of a type 1 payload
 pub show-refused : (f : Form) (w : Reading) (k : ℕ) (r : Refusal) → Refused r ≡ contentsOf w → located.Refused r ≡ locatedOf (givenOf f w) k
 unfolding contentsOf givenOf
-show-refused f (refusedPayload x) k r e = let q : r ≡ x .refusal = cc in ap located.Refused q ∙ asked-refused x k
+show-refused f (refusedPayload x) k r e = let q : r ≡ x = cc in ap located.Refused q ∙ asked-refused x k
 show-refused f (packet l n d fs) k r e = apart (cc)
 
 pub show-past : (f : Form) (w : Reading) (k l n b d : ℕ) → Packet l n b d ≡ contentsOf w → b ≤ k → located.Refused NotApplicable ≡ locatedOf (givenOf f w) k
@@ -243,7 +242,7 @@ shows v m p k l n b d e h = go (readAs v (Interleaved m) p) refl e
 -- ---- frame k is asked of a type 2 payload
 pub free-refused : (v : FrameTable) (p : List ℕ) (k : ℕ) → rowOfSize v (length p) ≡ Missing → located.Refused HeaderFreeLength ≡ locatedOf (givenAs v HeaderFree p) k
 unfolding readAs oneBody givenOf givenAs
-free-refused v p k e = rw e (asked-refused (faultPlain HeaderFreeLength) k)
+free-refused v p k e = rw e (asked-refused HeaderFreeLength k)
 
 module _ (v : FrameTable) (p : List ℕ) (k : ℕ) (r : Row) (e : rowOfSize v (length p) ≡ Found r) where
   pub free-past : 0 < k → located.Refused NotApplicable ≡ locatedOf (givenAs v HeaderFree p) k

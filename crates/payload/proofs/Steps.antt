@@ -34,17 +34,17 @@ module _ (v : FrameTable) (max : ℕ) (p : List ℕ) (c s : ℕ) where
   abbrev pub FromHere : Walked → Type 0
   FromHere e = walkedFrom v c s (toc v max c (c + 1) (drop (c + 1) p)) ≡ e
 
-  pub at-end : length p ≤ c + 1 → FromHere (entries.Fault TableCut)
+  pub at-end : length p ≤ c + 1 → FromHere (entries.Fault (TableCut (c + 1)))
   unfolding toc walkedFrom
   at-end h = rw (drop-of-length-le p h)
 
   module _ (h : c + 1 < length p) where
-    pub past-max : max ≤ c → FromHere (entries.Fault TooManyFrames)
+    pub past-max : max ≤ c → FromHere (entries.Fault (TooManyFrames (c + 1)))
     unfolding toc walkedFrom
     past-max m = rw (drop-cons p (c + 1) 0 h, le-leb max c m)
 
     module _ (m : c < max) where
-      pub not-known : rowOf v (typeOf (getD p (c + 1) 0)) ≡ Missing → FromHere (entries.Fault ReservedType)
+      pub not-known : rowOf v (typeOf (getD p (c + 1) 0)) ≡ Missing → FromHere (entries.Fault (ReservedType (c + 1)))
       unfolding toc walkedFrom
       not-known k = simp (drop-cons p (c + 1) 0 h, lt-leb max c m, k)
 

@@ -12,7 +12,7 @@ use Rattle.frame.specs.declared.Lookup.{Lookup}
 use Rattle.frame.specs.declared.Lookup.the-variants.{Found, Missing}
 use Rattle.form.specs.declared.Form.{Form}
 use Rattle.form.specs.declared.Form.the-variants.{HeaderFree, Interleaved}
-use Rattle.answers.specs.Faults.{Fault, faultAt, faultPlain}
+use Rattle.answers.specs.declared.Refusal.{Refusal}
 use Rattle.answers.specs.declared.Refusal.the-variants.{
   NoOctet,
   IndexPastLength,
@@ -26,10 +26,10 @@ use Rattle.answers.specs.declared.Refusal.the-variants.{
   NotApplicable,
 }
 
--- what a payload is read as: L, N, D and the frames, or the fault
+-- what a payload is read as: L, N, D and the frames, or the refusal
 pub data Reading : Type 0 where
   packet : (l n d : ℕ) → List Frame → Reading
-  refusedPayload : Fault → Reading
+  refusedPayload : Refusal → Reading
 
 -- "Octet 0 is RR x 64 + L x 8 + N. RR is .. ignored when read."
 abbrev pub lOf : ℕ → ℕ
@@ -39,26 +39,26 @@ lOf h = h / 8 % 8
 abbrev pub nOf : ℕ → ℕ
 nOf h = h % 8
 
--- a table of contents: the types, "the last entry's" D, and the octets behind it, which begin at octet `at`; or the fault
+-- a table of contents: the types, "the last entry's" D, and the octets behind it, which begin at octet `at`; or the refusal
 pub data Toc : Type 0 where
   contents : (types : List ℕ) (d at : ℕ) (rest : List ℕ) → Toc
-  fault : Fault → Toc
+  fault : Refusal → Toc
 
 -- a table with a type before its others; a fault stays one
 abbrev pub put : ℕ → Toc → Toc
 put t (contents ts d at rest) = contents (t ∷ ts) d at rest
-put t (fault f) = fault f
+put t (fault r) = fault r
 
 -- the table of contents at the front of a list that begins at octet `at`, with `count` entries before it and at most `max` in all:
 -- "ends at the first fault it meets"; "for each entry the order is 4, 6, 5"; (02, i) "for 4 the payload's length, for 5 and 6 the
 -- entry's place"
 unfoldable pub toc : FrameTable → (max count at : ℕ) → List ℕ → Toc
-toc v max count at [] = fault (faultAt at TableCut)
+toc v max count at [] = fault (TableCut at)
 toc v max count at (e ∷ es) =
-    cond (leb max count) (fault (faultAt at TooManyFrames))
+    cond (leb max count) (fault (TooManyFrames at))
     (cond (known v (typeOf e))
     (cond (more e) (put (typeOf e) (toc v max (count + 1) (at + 1) es)) (contents (typeOf e ∷ []) (dOf e) (at + 1) es))
-    (fault (faultAt at ReservedType)))
+    (fault (ReservedType at)))
 
 -- the octets that the bodies of these types take
 abbrev pub total : FrameTable → List ℕ → ℕ
@@ -77,25 +77,25 @@ firstCut v at (t ∷ ts) bs = cond (ltb (length bs) (size v t)) at (firstCut v (
 
 -- "After the last entry: 7, 8."; (02, i) "for 8 the first octet left over"
 unfoldable pub bodies : FrameTable → ℕ → ℕ → Toc → Reading
-bodies v l n (fault f) = refusedPayload f
+bodies v l n (fault r) = refusedPayload r
 bodies v l n (contents ts d at rest) =
-    cond (ltb (length rest) (total v ts)) (refusedPayload (faultAt (firstCut v at ts rest) BodiesCut))
-    (cond (ltb (total v ts) (length rest)) (refusedPayload (faultAt (at + total v ts) OctetsLeft)) (packet l n d (cut v ts rest)))
+    cond (ltb (length rest) (total v ts)) (refusedPayload (BodiesCut (firstCut v at ts rest)))
+    (cond (ltb (total v ts) (length rest)) (refusedPayload (OctetsLeft (at + total v ts))) (packet l n d (cut v ts rest)))
 
 -- Type 1, under maxima in range: 1, 2, 3, then the table of contents, which begins at octet 1, and the bodies
 unfoldable pub interleaved : FrameTable → Limits → List ℕ → Reading
-interleaved v m [] = refusedPayload (faultPlain NoOctet)
+interleaved v m [] = refusedPayload NoOctet
 interleaved v m (h ∷ es) =
-    cond (ltb (lOf h) (nOf h)) (refusedPayload (faultPlain IndexPastLength))
-    (cond (ltb (m .«max_l») (lOf h)) (refusedPayload (faultPlain LengthPastMaximum))
+    cond (ltb (lOf h) (nOf h)) (refusedPayload IndexPastLength)
+    (cond (ltb (m .«max_l») (lOf h)) (refusedPayload LengthPastMaximum)
     (bodies v (lOf h) (nOf h) (toc v (m .«max_b») 0 1 es)))
 
 -- Type 2: "one body and nothing else, its type known by the length"; "read as a group with L = 0, N = 0, B = 1, and D is reported as 0"
 unfoldable pub oneBody : Lookup → List ℕ → Reading
-oneBody Missing p = refusedPayload (faultPlain HeaderFreeLength)
+oneBody Missing p = refusedPayload HeaderFreeLength
 oneBody (Found r) p = packet 0 0 0 (record { type = r .kind; body = p } ∷ [])
 
 -- a payload read in the agreed form; "a reader given maxima out of range answers 21 first"
 unfoldable pub readAs : FrameTable → Form → List ℕ → Reading
 readAs v HeaderFree p = oneBody (rowOfSize v (length p)) p
-readAs v (Interleaved m) p = cond (inRange m) (interleaved v m p) (refusedPayload (faultPlain NotApplicable))
+readAs v (Interleaved m) p = cond (inRange m) (interleaved v m p) (refusedPayload NotApplicable)

@@ -1,9 +1,6 @@
 -- Document 01, "Payloads": what the readers show of a reading.
 use Prim.Native.Nat.{ℕ, _+_}
-use Prim.Native.Nat.{ℕ}
-use mathlib.Core.List.{List}
 use mathlib.Core.List.{List, []}
-use lib.ListN.{length}
 use lib.ListN.{length}
 use Rattle.frame.specs.FrameTable.{FrameTable, Frame}
 use Rattle.frame.specs.Places.{Given, frames}
@@ -19,7 +16,7 @@ use Rattle.payload.specs.declared.Walked.the-variants as entries
 -- "B is the number of entries."
 unfoldable pub contentsOf : Reading → Contents
 contentsOf (packet l n d fs) = Packet l n (length fs) d
-contentsOf (refusedPayload f) = Refused (f .refusal)
+contentsOf (refusedPayload r) = Refused r
 
 -- the octets before the first of b bodies: octet 0 and the b entries, or none
 abbrev pub headOf : Form → ℕ → ℕ
@@ -29,23 +26,23 @@ headOf (Interleaved m) b = 1 + b
 -- the frames, and where they lie: the bodies stand one after the other
 unfoldable pub givenOf : Form → Reading → Given
 givenOf form (packet l n d fs) = frames (headOf form (length fs)) 0 fs
-givenOf form (refusedPayload f) = places.refusedFrames f
+givenOf form (refusedPayload r) = places.refusedFrames r
 
 -- what a reader gives of a payload in the agreed form
 unfoldable pub givenAs : FrameTable → Form → List ℕ → Given
 givenAs v f p = givenOf f (readAs v f p)
 
--- what the walk over the entries yields: count, size and D, or the fault
+-- what the walk over the entries yields: count, size and D, or the refusal
 unfoldable pub walked : FrameTable → Toc → Walked
 walked v (contents ts d at rest) = entries.Whole (length ts) (total v ts) d
-walked v (fault f) = entries.Fault (f .refusal)
+walked v (fault r) = entries.Fault r
 
 -- the same, after c entries whose bodies take s octets
 unfoldable pub walkedFrom : FrameTable → ℕ → ℕ → Toc → Walked
 walkedFrom v c s (contents ts d at rest) = entries.Whole (c + length ts) (s + total v ts) d
-walkedFrom v c s (fault f) = entries.Fault (f .refusal)
+walkedFrom v c s (fault r) = entries.Fault r
 
 -- the frames that a payload was read as; none on a refusal
 unfoldable pub framesRead : Reading → List Frame
 framesRead (packet l n d fs) = fs
-framesRead (refusedPayload f) = []
+framesRead (refusedPayload r) = []

@@ -18,7 +18,7 @@ ghost use Rattle.frame.specs.Entry.{typeOf};
 ghost use Rattle.frame.specs.FrameTable.{rowsOf};
 ghost use Rattle.form.specs.Agreed.{tableOf, defaultForm};
 ghost use Rattle.frame.specs.Places.{locatedOf, bodyOf, startOf, VeryPart};
-ghost use Rattle.payload.specs.Payload.{readAs, interleaved, toc, total};
+ghost use Rattle.payload.specs.Payload.{readAs, interleaved, toc, total, firstCut};
 ghost use Rattle.payload.specs.Shown.{contentsOf, walked, givenAs, framesRead};
 
 // What a payload holds: L, N, B and D, or the refusal.
@@ -44,16 +44,16 @@ fn walk(vocoder: Vocoder, max_b: u8, payload: &[u8]) -> Walked
     'entries: loop {
         let at = count + 1;
         if payload.len() <= at {
-            break 'entries Walked::Fault(Refusal::TableCut);
+            break 'entries Walked::Fault(Refusal::TableCut(at));
         }
         if max <= count {
-            break 'entries Walked::Fault(Refusal::TooManyFrames);
+            break 'entries Walked::Fault(Refusal::TooManyFrames(at));
         }
         let entry = payload[at];
         let found = frame::row_of(vocoder, entry % 64);
         match found {
             Lookup::Missing => {
-                break 'entries Walked::Fault(Refusal::ReservedType);
+                break 'entries Walked::Fault(Refusal::ReservedType(at));
             }
             Lookup::Found(row) => {
                 size = size + row.octets;
@@ -68,6 +68,26 @@ fn walk(vocoder: Vocoder, max_b: u8, payload: &[u8]) -> Walked
             }
         }
     }
+}
+
+// The place of the first body, of count entries, that doesn't fit whole; the end of the last one where all do.
+fn first_cut(vocoder: Vocoder, payload: &[u8], count: usize) -> usize
+    requires { ⌜ count < length (now payload) ⌝ }
+    ensures { λ r. ⌜ r
+        ≡ firstCut (rowsOf vocoder) (1 + count) (take count (map typeOf (drop 1 (now (payload .entry))))) (drop (1 + count) (now (payload .entry))) ⌝ }
+{
+    let mut start = 1 + count;
+    let mut i: usize = 0;
+    while i < count {
+        let at = i + 1;
+        let size = frame::body_size(vocoder, payload[at] % 64);
+        if payload.len() - start < size {
+            return start;
+        }
+        start = start + size;
+        i = at;
+    }
+    start
 }
 
 // Type 1, under limits that are in range: octet 0, then the walk, then the bodies.
@@ -92,10 +112,12 @@ fn read_within(vocoder: Vocoder, limits: Limits, payload: &[u8]) -> Contents
         Walked::Whole { count, size, d } => {
             let left = payload.len() - 1 - count;
             if left < size {
-                return Contents::Refused(Refusal::BodiesCut);
+                let at = first_cut(vocoder, payload, count);
+                return Contents::Refused(Refusal::BodiesCut(at));
             }
             if size < left {
-                return Contents::Refused(Refusal::OctetsLeft);
+                let end = 1 + count + size;
+                return Contents::Refused(Refusal::OctetsLeft(end));
             }
             let b = count as u8;
             Contents::Packet { l, n, b, d }

@@ -8,7 +8,6 @@ use lib.ListN.{length, take, drop, getD, length-append}
 use Rattle.octets.proofs.Logic.{apart}
 use Rattle.frame.specs.FrameTable.{Frame, size}
 use Rattle.frame.specs.Places.{taken, frameAt, locatedOf}
-use Rattle.answers.specs.Faults.{faultPlain}
 use Rattle.answers.specs.Outputs as outputs
 use Rattle.answers.specs.declared.Refusal.{Refusal}
 use Rattle.answers.specs.declared.Refusal.the-variants.{NotApplicable, WrongOpening}
@@ -19,17 +18,16 @@ use Rattle.entries.specs.Entries.{EntriesRead, frames, refusedEntries, allowed,
 use Rattle.entries.specs.Counting.{countedOf}
 use Rattle.entries.specs.declared.Rule.the-variants.{Any}
 use Rattle.entries.specs.declared.Counted.the-variants as counted
-use Rattle.entries.proofs.Moving.{counted-later, frames-later}
 use Rattle.entries.proofs.EntriesLaws.{entry-of, entries-laid}
-use Rattle.entries.proofs.Clearing.{entries-cleared, length-cleared}
+use Rattle.entries.proofs.Clearing.{entries-cleared, length-cleared, read-any}
 use Rattle.recording.specs.Recording.{opensWith, recordingRead, recordingMade}
 use Rattle.recording.specs.Shown.{givenOf, givenIn}
 
 -- ---- read
 module _ (kind : Kind) (p : List ℕ) where
-  pub opened : opensWith kind p ≡ true → countedOf (entriesIn kind Any (drop (length (kind .opening)) p)) ≡ countedOf (recordingRead kind p)
+  pub opened : opensWith kind p ≡ true → countedOf (entriesFrom kind Any (length (kind .opening)) (drop (length (kind .opening)) p)) ≡ countedOf (recordingRead kind p)
   unfolding recordingRead
-  opened e = rw e (sym (counted-later kind Any (length (kind .opening)) (drop (length (kind .opening)) p)))
+  opened e = rw e
 
   pub not-opened : opensWith kind p ≡ false → counted.Refused WrongOpening ≡ countedOf (recordingRead kind p)
   unfolding recordingRead countedOf
@@ -39,17 +37,17 @@ module _ (kind : Kind) (p : List ℕ) where
   unfolding recordingRead
   recorded-from fs e = go (opensWith kind p) (entriesFrom kind Any (length (kind .opening)) (drop (length (kind .opening)) p)) e
     where
-      go : (b : Bool) (w : EntriesRead) → cond b w (refusedEntries (faultPlain WrongOpening)) ≡ frames fs → w ≡ frames fs
+      go : (b : Bool) (w : EntriesRead) → cond b w (refusedEntries WrongOpening) ≡ frames fs → w ≡ frames fs
       go true w x = x
       go false w x = apart (cc)
 
   pub recorded-frames : (fs : List Frame) → recordingRead kind p ≡ frames fs → entriesIn kind Any (drop (length (kind .opening)) p) ≡ frames fs
-  recorded-frames fs e = frames-later kind Any (length (kind .opening)) (drop (length (kind .opening)) p) fs (recorded-from fs e)
+  recorded-frames fs e = read-any kind Any (length (kind .opening)) (drop (length (kind .opening)) p) fs (recorded-from fs e)
 
 -- ---- frame k is asked for
 pub show-refused : (h : ℕ) (w : EntriesRead) (k : ℕ) (r : Refusal) → counted.Refused r ≡ countedOf w → located.Refused r ≡ locatedOf (givenOf h w) k
 unfolding countedOf givenOf
-show-refused h (refusedEntries f) k r e = let q : r ≡ f .refusal = cc in ap located.Refused q ∙ asked-refused f k
+show-refused h (refusedEntries f) k r e = let q : r ≡ f = cc in ap located.Refused q ∙ asked-refused f k
 show-refused h (frames fs) k r e = apart (cc)
 
 pub show-past : (h : ℕ) (w : EntriesRead) (k n : ℕ) → counted.Frames n ≡ countedOf w → n ≤ k → located.Refused NotApplicable ≡ locatedOf (givenOf h w) k
@@ -104,7 +102,7 @@ unfolding recordingMade countedOf
 made-refused kind es r e = go (entriesIn kind Any es) refl e
   where
     go : (w : EntriesRead) → entriesIn kind Any es ≡ w → counted.Refused r ≡ countedOf w → recordingMade kind es ≡ outputs.refusedOutput r
-    go (refusedEntries f) q x = let y : f .refusal ≡ r = cc in rw (q, y)
+    go (refusedEntries f) q x = let y : f ≡ r = cc in rw (q, y)
     go (frames fs) q x = apart (cc)
 
 pub made-frames : (kind : Kind) (es : List ℕ) (n : ℕ) → counted.Frames n ≡ countedOf (entriesIn kind Any es) → recordingMade kind es ≡ outputs.octets (kind .opening ++ cleared kind 0 es)

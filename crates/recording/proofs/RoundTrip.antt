@@ -8,7 +8,6 @@ use lib.ListN.{length, drop}
 use lib.Seq.{drop-append-seam}
 use Rattle.octets.proofs.Logic.{apart}
 use Rattle.frame.specs.FrameTable.{Frame}
-use Rattle.answers.specs.Faults.{faultPlain}
 use Rattle.answers.specs.Outputs as outputs
 use Rattle.answers.specs.declared.Refusal.the-variants.{WrongOpening}
 use Rattle.entries.specs.Kind.{Kind, keepsTypes}
@@ -45,7 +44,7 @@ unfolding recordingRead
 whole kind p fs e = go (opensWith kind p) refl e
   where
     go : (b : Bool) → opensWith kind p ≡ b →
-        cond b (entriesFrom kind Any (length (kind .opening)) (drop (length (kind .opening)) p)) (refusedEntries (faultPlain WrongOpening)) ≡ frames fs →
+        cond b (entriesFrom kind Any (length (kind .opening)) (drop (length (kind .opening)) p)) (refusedEntries WrongOpening) ≡ frames fs →
         kind .opening ++ drop (length (kind .opening)) p ≡ p
     go true q x = begins-split kind p q
     go false q x = apart (cc)

@@ -4,7 +4,6 @@ use mathlib.Core.List.{List, _++_}
 use mathlib.Core.Bool.{Bool, cond}
 use lib.ListN.{length, take, drop}
 use Rattle.octets.specs.Octets.{sameOctets}
-use Rattle.answers.specs.Faults.{faultPlain}
 use Rattle.answers.specs.Outputs.{Made}
 use Rattle.answers.specs.Outputs as outputs
 use Rattle.answers.specs.declared.Refusal.the-variants.{WrongOpening}
@@ -20,12 +19,12 @@ opensWith kind p = sameOctets (kind .opening) (take (length (kind .opening)) p)
 unfoldable pub recordingRead : Kind → List ℕ → EntriesRead
 recordingRead kind p =
     cond (opensWith kind p) (entriesFrom kind Any (length (kind .opening)) (drop (length (kind .opening)) p))
-    (refusedEntries (faultPlain WrongOpening))
+    (refusedEntries WrongOpening)
 
 -- the recording of these frames: "puts the opening before them"
 abbrev pub recordingOf : Kind → EntriesRead → Made
 recordingOf kind (frames fs) = outputs.octets (kind .opening ++ entriesOf fs)
-recordingOf kind (refusedEntries f) = outputs.refusedOutput (f .refusal)
+recordingOf kind (refusedEntries r) = outputs.refusedOutput r
 
 -- "The writer takes entries, checks 5, 19 for each, then 15"
 unfoldable pub recordingMade : Kind → List ℕ → Made

@@ -11,7 +11,7 @@ use Rattle.recording.specs.Recording.{recordingRead}
 -- the frames, and where they lie: behind `head` octets, the entry octet before each body
 unfoldable pub givenOf : ℕ → EntriesRead → Given
 givenOf head (frames fs) = places.frames head 1 fs
-givenOf head (refusedEntries f) = places.refusedFrames f
+givenOf head (refusedEntries r) = places.refusedFrames r
 
 -- what a recording gives, behind its opening
 unfoldable pub givenIn : Kind → List ℕ → Given

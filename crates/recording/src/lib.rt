@@ -34,7 +34,7 @@ pub fn read(vocoder: Vocoder, recording: &[u8]) -> Counted
 {
     let good = opens(vocoder, recording);
     if good {
-        entries::count(vocoder, Rule::Any, &recording[HEAD..])
+        entries::count(vocoder, Rule::Any, recording, HEAD)
     } else {
         Counted::Refused(Refusal::WrongOpening)
     }
@@ -71,7 +71,7 @@ pub fn body(vocoder: Vocoder, recording: &[u8], k: usize) -> &[u8]
 pub fn write(vocoder: Vocoder, entries: &[u8], out: &mut [u8]) -> Written
     ensures { λ r. ⌜ Writes (recordingMade (kindOf vocoder) (now (entries .entry))) (now (out .entry)) r (now (out .exit)) ⌝ }
 {
-    let held = entries::count(vocoder, Rule::Any, entries);
+    let held = entries::count(vocoder, Rule::Any, entries, 0);
     match held {
         Counted::Refused(r) => Written::Refused(r),
         Counted::Frames(_) => {

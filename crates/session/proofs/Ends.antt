@@ -5,27 +5,51 @@ use mathlib.Core.Path.{_≡_, refl, sym, subst, _∙_}
 use mathlib.Core.List.{List}
 use lib.Dec.{eqb}
 use borrow.Author.Tests.{eqb-true}
+use Rattle.octets.proofs.Logic.{apart, both-true}
 use Rattle.frame.specs.FrameTable.{Frame}
 use Rattle.frame.specs.Shape.{Shape, Voice}
+use Rattle.answers.specs.Answers.{numberOf}
 use Rattle.answers.specs.declared.Refusal.{Refusal}
 use Rattle.answers.specs.declared.Refusal.the-variants.{AnotherSource, PacketDiffers, NotApplicable}
 use Rattle.payload.specs.Payload.{Reading, packet, refusedPayload, readAs}
+use Rattle.payload.proofs.Faulting.{never-later}
 use Rattle.numbers.specs.Place.{gap, withHeld, afterPoured, decided}
 use Rattle.numbers.specs.declared.Before.the-variants as before
 use Rattle.numbers.specs.declared.Verdict.{Verdict}
 use Rattle.numbers.proofs.PlaceLaws.{HeldEnds, held-ends, PouredEnds, poured-ends}
 use Rattle.numbers.proofs.PlaceLaws as numbers
-use Rattle.holding.specs.Group.{numbersOf, isNothing, heldAt, bundleAt, withPacket}
+use Rattle.holding.specs.Group.{numbersOf, isNothing, heldAt, bundleAt, withPacket, holds}
 use Rattle.bundle.specs.Bundles.{sameBundles}
-use Rattle.session.specs.Session.{isOpen, refuse, accept, withGroup, lastNumbers, groupBefore, begins, belongs, placedBy, placed}
-use Rattle.session.specs.Session.{arrival, judged, received, offered}
+use Rattle.session.specs.Session.{formRight, lastRight, groupRight, isOpen, refuse, accept, withGroup, lastNumbers, groupBefore, begins}
+use Rattle.session.specs.Session.{belongs, placedBy, placed, arrival, judged, received, offered}
 use Rattle.session.specs.declared.Session.{Session}
 use Rattle.session.specs.declared.Arrival.{Arrival}
 use Rattle.session.specs.declared.Offered.{Offered}
 
--- ---- a packet that was read, at its place
+-- ---- a session that is open
+pub record Open (v : Voice) (s : Session) : Type 0 where
+  pub opened : s .«open» ≡ true
+  pub form : formRight (s .form) ≡ true
+  pub last : lastRight (v .shape) s ≡ true
+  pub group : groupRight v s ≡ true
+
+pub open-has : (v : Voice) (s : Session) → isOpen v s ≡ true → Open v s
+unfolding isOpen
+open-has v s e =
+    let p = both-true (s .«open») (formRight (s .form) && (lastRight (v .shape) s && groupRight v s)) e in
+    let q = both-true (formRight (s .form)) (lastRight (v .shape) s && groupRight v s) (p .1) in
+    let r = both-true (lastRight (v .shape) s) (groupRight v s) (q .1) in
+    record { opened = p .0; form = q .0; last = r .0; group = r .1 }
+
+-- its group is held, and names its source
+pub group-has : (v : Voice) (s : Session) → groupRight v s ≡ true → isNothing (v .shape) (s .group) ≡ false
+    → (holds v (s .group) ≡ true) × (s .group .source ≡ s .source)
+unfolding groupRight
+group-has v s e f = let p = both-true (holds v (s .group)) (eqb (s .group .source) (s .source)) (rw f at e) in (p .0, eqb-true _ _ (p .1))
+
+-- ---- a packet that was read, at its place; only a group that is held makes it 12
 pub data Placed (u : Shape) (s : Session) (a : Arrival) (o : Offered) : Type 0 where
-  no : (r : Refusal) → o ≡ refuse s r → Placed u s a o
+  no : (r : Refusal) → (isNothing u (s .group) ≡ true → eqb (numberOf r) 12 ≡ false) → o ≡ refuse s r → Placed u s a o
   again : isNothing u (s .group) ≡ false → o ≡ accept s 0 → Placed u s a o
   put : isNothing u (s .group) ≡ false → a .numbers .l ≡ s .group .l → a .numbers .b ≡ s .group .b
       → o ≡ accept (withGroup s (withPacket u (s .group) (a .n) (a .packet))) 0 → Placed u s a o
@@ -42,19 +66,19 @@ module _ (u : Shape) (s : Session) (a : Arrival) where
       go : (x y : Bool)
           → Placed u s a (cond x (cond y (accept s 0) (refuse s PacketDiffers)) (accept (withGroup s (withPacket u (s .group) (a .n) (a .packet))) 0))
       go true true = again q refl
-      go true false = no PacketDiffers refl
+      go true false = no PacketDiffers (λ h. refl) refl
       go false y = put q l b refl
 
   -- with a group held, and with one poured before
   by-held : isNothing u (s .group) ≡ false → (w : Verdict) → HeldEnds (numbersOf (s .group)) (a .numbers) w → Placed u s a (placedBy u s a w)
   unfolding placedBy numbersOf
-  by-held q w (numbers.refused r e) = rw e (no r refl)
+  by-held q w (numbers.refused r e) = rw e (no r (λ h. let z : false ≡ true = sym q ∙ h in apart (cc)) refl)
   by-held q w (numbers.member l b e) = rw e (belongs-ends q l b)
 
   by-poured : isNothing u (s .group) ≡ true → s .poured ≡ true → (w : Verdict) → PouredEnds (lastNumbers s) (a .numbers) w
       → Placed u s a (placedBy u s a w)
   unfolding placedBy lastNumbers
-  by-poured q p w (numbers.refused r e) = rw e (no r refl)
+  by-poured q p w (numbers.refused r n e) = rw e (no r (λ h. n) refl)
   by-poured q p w (numbers.follows lost f h e) = rw e (next q p lost f h refl)
 
   placed-ends : Placed u s a (placed u s a)
@@ -76,7 +100,7 @@ pub data Seen (s : Session) (lost : ℕ) (o : Offered) : Type 0 where
 pub seen : (u : Shape) (s : Session) (a : Arrival) (o : Offered) → Placed u s a o
     → Seen s (cond (isNothing u (s .group) && s .poured) (gap (lastNumbers s) (a .numbers) * s .«last_b») 0) o
 unfolding begins
-seen u s a o (no r e) = kept r e
+seen u s a o (no r n e) = kept r e
 seen u s a o (again q e) = rw q (took s e)
 seen u s a o (put q f g e) = rw q (took _ e)
 seen u s a o (first q p e) = rw (q, p) (took _ e)
@@ -87,7 +111,7 @@ seen u s a o (next q p lost f h e) =
 
 -- ---- an offer: refused before its place is looked at, or a packet of the session's source that was read, at its place
 pub data Ends (v : Voice) (s : Session) (source sequence timestamp : ℕ) (p : List ℕ) (o : Offered) : Type 0 where
-  refuses : (r : Refusal) → o ≡ refuse s r → Ends v s source sequence timestamp p o
+  refuses : (r : Refusal) → eqb (numberOf r) 12 ≡ false → o ≡ refuse s r → Ends v s source sequence timestamp p o
   places : isOpen v s ≡ true → source ≡ s .source → (l n d : ℕ) (fs : List Frame) → readAs (v .table) (s .form) p ≡ packet l n d fs
       → Placed (v .shape) s (arrival (v .shape) sequence timestamp l n fs) o → Ends v s source sequence timestamp p o
 
@@ -99,16 +123,16 @@ offer-ends v s source sequence timestamp p = by-open (isOpen v s) refl (eqb sour
     by-open : (b : Bool) → isOpen v s ≡ b → (c : Bool) → eqb source (s .source) ≡ c → (w : Reading) → readAs (v .table) (s .form) p ≡ w
         → Ends v s source sequence timestamp p
         (cond b (cond c (judged (v .shape) s sequence timestamp w) (refuse s AnotherSource)) (refuse s NotApplicable))
-    by-open false x c y w z = refuses NotApplicable refl
-    by-open true x false y w z = refuses AnotherSource refl
-    by-open true x true y (refusedPayload f) z = refuses (f .refusal) refl
+    by-open false x c y w z = refuses NotApplicable refl refl
+    by-open true x false y w z = refuses AnotherSource refl refl
+    by-open true x true y (refusedPayload r) z = refuses r (never-later (v .table) (s .form) p r z) refl
     by-open true x true y (packet l n d fs) z =
         places x (eqb-true source (s .source) y) l n d fs z (placed-ends (v .shape) s (arrival (v .shape) sequence timestamp l n fs))
 
 -- ---- an offer changes the held group alone
 placed-group : (u : Shape) (s : Session) (a : Arrival) (o : Offered) → Placed u s a o → o .session ≡ withGroup s (o .session .group)
 unfolding refuse accept withGroup begins
-placed-group u s a o (no r e) = rw e
+placed-group u s a o (no r n e) = rw e
 placed-group u s a o (again q e) = rw e
 placed-group u s a o (put q l b e) = rw e
 placed-group u s a o (first q p e) = rw e
@@ -120,5 +144,5 @@ unfolding refuse withGroup
 only-group v s source sequence timestamp p = go (offered v s source sequence timestamp p) (offer-ends v s source sequence timestamp p)
   where
     go : (o : Offered) → Ends v s source sequence timestamp p o → o .session ≡ withGroup s (o .session .group)
-    go o (refuses r e) = rw e
+    go o (refuses r n e) = rw e
     go o (places i j l n d fs q x) = placed-group (v .shape) s (arrival (v .shape) sequence timestamp l n fs) o x

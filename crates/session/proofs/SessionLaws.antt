@@ -210,7 +210,7 @@ module _ (v : Voice) (s : Session) where
 -- ---- offering
 judge-refused : (u : Shape) (s : Session) (sequence timestamp : ℕ) (w : Reading) (r : Refusal) → contents.Refused r ≡ contentsOf w → refuse s r ≡ judged u s sequence timestamp w
 unfolding judged contentsOf
-judge-refused u s q t (refusedPayload x) r e = let z : r ≡ x .refusal = cc in ap (refuse s) z
+judge-refused u s q t (refusedPayload x) r e = let z : r ≡ x = cc in ap (refuse s) z
 judge-refused u s q t (packet l n d fs) r e = apart (cc)
 
 -- what was read of a packet, as it arrived

@@ -158,7 +158,7 @@ arrival shape sequence timestamp l n fs =
 
 -- "payload (1 to 9), place"
 unfoldable pub judged : Shape → Session → ℕ → ℕ → Reading → Offered
-judged shape s sequence timestamp (refusedPayload f) = refuse s (f .refusal)
+judged shape s sequence timestamp (refusedPayload r) = refuse s r
 judged shape s sequence timestamp (packet l n d fs) = placed shape s (arrival shape sequence timestamp l n fs)
 
 -- what an open session makes of a packet: "source (10), payload (1 to 9), place"

@@ -10,22 +10,22 @@ use Rattle.frame.specs.FrameTable.{rowsOf}
 use Rattle.entries.specs.declared.Counted.the-variants as counted
 use Rattle.entries.specs.Counting.{countedFrom, countedOf}
 use Rattle.entries.specs.Kind.{kindOf}
-use Rattle.entries.specs.Entries.{allowed, entriesIn}
+use Rattle.entries.specs.Entries.{allowed, entriesFrom}
 use Rattle.entries.specs.Entries as spec
 use Rattle.entries.proofs.Walking.{from-start, from-put, ended, not-known, body-cut, not-allowed, next}
 use Rattle.entries.proofs.count.Statement.{statement}
 use Rattle.entries.proofs.count.Tie as tie
 
 abbrev Inv-entries : tie.InvT-entries
-Inv-entries vocoder rule entries n₀ at₀ n at =
-    (at ≤ length entries) × (n ≤ at) ×
-    (countedFrom n (spec.entries (kindOf vocoder) (allowed (rowsOf vocoder) rule) at 0 (drop at entries)) ≡ countedOf (entriesIn (kindOf vocoder) rule entries))
+Inv-entries vocoder rule entries from n₀ at₀ n at =
+    (n ≤ at) ×
+    (countedFrom n (spec.entries (kindOf vocoder) (allowed (rowsOf vocoder) rule) at 0 (drop at entries)) ≡ countedOf (entriesFrom (kindOf vocoder) rule from (drop from entries)))
 
 abbrev μ-entries : tie.MeasureT-entries
-μ-entries vocoder rule entries n₀ at₀ n at = length entries - at
+μ-entries vocoder rule entries from n₀ at₀ n at = length entries - at
 
 entries-holds : tie.Need-entries-holds Inv-entries μ-entries
-entries-holds c = (omega arith, omega arith, from-start _)
+entries-holds c = (omega arith, from-start _)
 
 shared-slice-read-kind : tie.Need-shared-slice-read-kind Inv-entries μ-entries
 shared-slice-read-kind c = omega arith
@@ -74,18 +74,17 @@ entries-again c =
     let at-entries = at-if1 .before in
     let start = at-entries .before .before in (
       omega arith,
-      omega arith,
       sym (ap (countedFrom _)
           (next _ (allowed _ (start .args .rule)) _ _ (at-if1 .if1 .left) _
           (sym (at-row-of .row-of .ensures) ∙ at-found .found .given .1) (c .before .before .before .if2 .left)
           (sym (c .before .allows .ensures) ∙ c .if3 .taken))
           ∙ from-put _ _ _)
-          ∙ at-entries .entries .inv .2,
+          ∙ at-entries .entries .inv .1,
     )
 
 returns : tie.Need-returns Inv-entries μ-entries
 unfolding countedFrom
-returns c = sym (ap (countedFrom _) (ended _ (allowed _ (c .before .before .before .args .rule)) _ _ (c .if1 .taken)) ∙ ap counted.Frames (add-zero _)) ∙ c .before .entries .inv .2
+returns c = sym (ap (countedFrom _) (ended _ (allowed _ (c .before .before .before .args .rule)) _ _ (c .if1 .taken)) ∙ ap counted.Frames (add-zero _)) ∙ c .before .entries .inv .1
 
 returns-2 : tie.Need-returns-2 Inv-entries μ-entries
 unfolding countedFrom
@@ -96,7 +95,7 @@ returns-2 c =
     sym (ap (countedFrom _)
     (not-known _ (allowed _ (start .args .rule)) _ _ (at-if1 .if1 .left)
     (sym (c .before .before .row-of .ensures) ∙ c .enum-told .given .1)))
-    ∙ at-entries .entries .inv .2
+    ∙ at-entries .entries .inv .1
 
 returns-3 : tie.Need-returns-3 Inv-entries μ-entries
 unfolding countedFrom
@@ -108,7 +107,7 @@ returns-3 c =
     sym (ap (countedFrom _)
     (body-cut _ (allowed _ (start .args .rule)) _ _ (at-if1 .if1 .left) _
     (sym (at-row-of .row-of .ensures) ∙ c .before .before .found .given .1) (c .if2 .taken)))
-    ∙ at-entries .entries .inv .2
+    ∙ at-entries .entries .inv .1
 
 returns-4 : tie.Need-returns-4 Inv-entries μ-entries
 unfolding countedFrom
@@ -122,7 +121,7 @@ returns-4 c =
     (not-allowed _ (allowed _ (start .args .rule)) _ _ (at-if1 .if1 .left) _
     (sym (at-row-of .row-of .ensures) ∙ at-found .found .given .1) (c .before .before .before .if2 .left)
     (sym (c .before .allows .ensures) ∙ c .if3 .left)))
-    ∙ at-entries .entries .inv .2
+    ∙ at-entries .entries .inv .1
 
 pub count-spec : {M : Type 1} → statement M
 count-spec =

@@ -40,13 +40,26 @@ sub-left-2 c =
     let start = c .before .before .before .before .before .before .before .before .before .before in
     omega (arith, counted _ _ _ _ _ _ (sym (c .before .entries2 .given .1) ∙ c .before .before .before .walk .ensures) .within, length-drop 1 (now (start .args .payload)))
 
+first-cut-requires : tie.Need-first-cut-requires
+first-cut-requires c κs =
+    let at-walk = c .before .before .before .before in
+    let start = at-walk .before .before .before .before .before .before .before in
+    omega (arith, counted _ _ _ _ _ _ (sym (c .before .before .entries2 .given .1) ∙ at-walk .walk .ensures) .within, length-drop 1 (now (start .args .payload)))
+
 returns-4 : tie.Need-returns-4
 returns-4 c =
-    let at-walk = c .before .before .before .before in
+    let at-walk = c .before .before .before .before .before in
     let at-if3 = at-walk .before in
     let at-if2 = at-if3 .before .before in
     let at-if1 = at-if2 .before .before in
-    bodies-cut _ _ _ (at-if1 .if1 .left) (at-if2 .if2 .left) (at-if3 .if3 .left) _ _ _ (sym (c .before .before .entries2 .given .1) ∙ at-walk .walk .ensures) (c .if4 .taken)
+    bodies-cut _ _ _ (at-if1 .if1 .left) (at-if2 .if2 .left) (at-if3 .if3 .left) _ _ _
+    (sym (c .before .before .before .entries2 .given .1) ∙ at-walk .walk .ensures) _ (c .first-cut .ensures) (c .before .if4 .taken)
+
+add-end : tie.Need-add-end
+add-end c = omega arith
+
+add-end-2 : tie.Need-add-end-2
+add-end-2 c = omega arith
 
 returns-5 : tie.Need-returns-5
 returns-5 c =
@@ -91,7 +104,10 @@ read-within-spec =
     enum-known-entries-2
     sub-left
     sub-left-2
+    first-cut-requires
     returns-4
+    add-end
+    add-end-2
     returns-5
     cast-b
     returns-6

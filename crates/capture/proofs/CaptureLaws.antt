@@ -135,6 +135,10 @@ unfolding startAt
 payload-in c g i h = let w = g .whole in omega (arith, lengths-grow c i (countOf c) h)
 
 -- where the payloads start, one after the other
+pub start-at : (c : List ℕ) (n i total : ℕ) → n ≡ countOf c → total ≡ lengths c i → 2 + 12 * n + total ≡ startAt c i
+unfolding startAt
+start-at c n i total e f = ap₂ (λ (x y : ℕ). 2 + 12 * x + y) e f
+
 pub start-first : (c : List ℕ) (n : ℕ) → n ≡ countOf c → 2 + 12 * n ≡ startAt c 0
 unfolding startAt lengths
 start-first c n e = omega arith

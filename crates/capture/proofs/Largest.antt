@@ -34,14 +34,14 @@ use Rattle.pouring.proofs.PouringLaws.{entries-append}
 use Rattle.answers.specs.declared.Refusal.{Refusal}
 use Rattle.answers.specs.declared.Refusal.the-variants.{NotApplicable}
 use Rattle.payload.specs.Payload.{packet}
-use Rattle.session.specs.Session.{formRight, lastRight, groupRight, isOpen, refuse, accept, withGroup, begins, arrival, offered, pourMade}
+use Rattle.session.specs.Session.{lastRight, isOpen, refuse, accept, withGroup, begins, arrival, offered, pourMade}
 use Rattle.session.specs.Session.{ended, neverOpened, fresh, vacant}
-use Rattle.session.proofs.Ends.{Placed, no, again, put, first, next, Ends, refuses, places, offer-ends}
+use Rattle.session.proofs.Ends.{open-has, Placed, no, again, put, first, next, Ends, refuses, places, offer-ends}
 use Rattle.session.specs.declared.Session.{Session}
 use Rattle.session.specs.declared.Arrival.{Arrival}
 use Rattle.session.specs.declared.Offered.{Offered}
 use Rattle.capture.specs.Capture.{Heard}
-use Rattle.capture.specs.Run.{Step, andThen, firstSession, offeredTo, takenOf, offering, pouredOf, pouring, isTwelve, stepOf, runOf}
+use Rattle.capture.specs.Run.{Step, still, andThen, firstSession, offeredTo, takenOf, offering, pouredOf, pouring, isTwelve, stepOf, runOf}
 use Rattle.capture.specs.Run.{lostIn}
 
 at-most-one : (t : Bool) → cond t 1 0 ≤ 1
@@ -185,7 +185,7 @@ begun-weight s a =
 
 placed-brings : (s : Session) (a : Arrival) (o : Offered) → lastRight holdingShape s ≡ true → Placed holdingShape s a o → Brings s o
 unfolding begins withGroup lastRight
-placed-brings s a o r (no x e) = nothing-new x e
+placed-brings s a o r (no x n e) = nothing-new x e
 placed-brings s a o r (again q e) = more s 0 e refl refl (omega arith) (omega arith)
 placed-brings s a o r (put q f i e) =
     let g = s .group in
@@ -202,15 +202,13 @@ placed-brings s a o r (next q p lost f h e) =
     more _ lost e refl refl (omega (arith, h, few)) (omega (arith, begun-weight s a, h, few, b))
 
 offer-brings : (v : FrameTable) (s : Session) (h : Heard) → Brings s (offeredTo v s h)
-unfolding offeredTo isOpen
+unfolding offeredTo
 offer-brings v s h = go (offered (voiceWith v) s (h .source) (h .sequence) (h .timestamp) (h .payload)) (offer-ends (voiceWith v) s (h .source) (h .sequence) (h .timestamp) (h .payload))
   where
     go : (o : Offered) → Ends (voiceWith v) s (h .source) (h .sequence) (h .timestamp) (h .payload) o → Brings s o
-    go o (refuses r e) = nothing-new r e
+    go o (refuses r n e) = nothing-new r e
     go o (places op q l n d fs r x) =
-        let rest = lastRight holdingShape s && groupRight (voiceWith v) s in
-        let y = both-true (formRight (s .form)) rest (both-true (s .«open») (formRight (s .form) && rest) op .1) in
-        placed-brings s (arrival holdingShape (h .sequence) (h .timestamp) l n fs) o (both-true (lastRight holdingShape s) (groupRight (voiceWith v) s) (y .1) .0) x
+        placed-brings s (arrival holdingShape (h .sequence) (h .timestamp) l n fs) o (open-has (voiceWith v) s op .last) x
 
 -- so the lost frames of an answer are few
 pub lost-few : (v : FrameTable) (s : Session) (h : Heard) → lostIn (offeredTo v s h .answer) ≤ 1000
@@ -254,7 +252,7 @@ step-source kind s h = go (isTwelve (offeredTo (kind .table) s h .answer))
 
 -- ---- pouring in a run
 data Pours (s : Session) (a : Step) : Type 0 where
-  none : a ≡ record { session = s; octets = [] } → Pours s a
+  none : a ≡ still s [] → Pours s a
   some : a .session ≡ ended holdingShape s → 80 ≤ weight s → length (a .octets) ≤ weight s → Pours s a
 
 -- ---- a run of i packets that has recorded len octets

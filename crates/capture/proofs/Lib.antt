@@ -1,3 +1,4 @@
 pub mod CaptureLaws
 pub mod Largest
 pub mod RunLaws
+pub mod Answering

@@ -34,8 +34,8 @@ use Rattle.session.specs.declared.Taken.the-variants.{Accepted, Refused}
 use Rattle.frame.proofs.PlacesLaws.{length-upTo, upTo-more, upTo-first}
 use Rattle.frame.proofs.FrameTableLaws.{rows-within, rows-erases}
 use Rattle.capture.specs.Capture.{Heard, countOf, startAt, heardAt, packetsIn, good}
-use Rattle.capture.specs.Run.{captureVocoder, captureKind, Step, andThen, captureForm, firstSession, offeredTo, takenOf, offering, pouredOf, pouring, isTwelve}
-use Rattle.capture.specs.Run.{lostIn, stepOf, runOf, entriesRecorded, captureRecording, largest, Put, Does, recordAnswer}
+use Rattle.capture.specs.Run.{captureVocoder, captureKind, Step, still, andThen, captureForm, firstSession, offeredTo, takenOf, offering, pouredOf, pouring, isTwelve}
+use Rattle.capture.specs.Run.{lostIn, stepOf, runOf, wholeRun, entriesRecorded, captureRecording, largest, Put, Does, recordAnswer}
 use Rattle.capture.specs.Run.{recordOutput}
 use Rattle.capture.specs.declared.Run.{Run}
 use Rattle.capture.specs.declared.Outcome.the-variants as outcome
@@ -50,25 +50,33 @@ pub table-erases : T (erases (captureKind .table))
 table-erases = rows-erases captureVocoder
 
 -- ---- a run over one list and then another, and over one packet more
+-- a step with octets and answers put before its own
+abbrev before : Step → Step → Step
+before a b = record { session = b .session; octets = a .octets ++ b .octets; answers = a .answers ++ b .answers }
+
+abbrev recorded : Session → List ℕ → List Taken → Step
+recorded s o w = record { session = s; octets = o; answers = w }
+
 run-append : (kind : Kind) (s : Session) (hs ks : List Heard) → runOf kind s (hs ++ ks) ≡ andThen (runOf kind s hs) (λ t. runOf kind t ks)
 unfolding runOf andThen
 run-append kind s [] ks = refl
 run-append kind s (h ∷ hs) ks =
     let a = stepOf kind s h in
     let x = runOf kind (a .session) hs in
-    ap (λ (b : Step). record { session = b .session; octets = a .octets ++ b .octets }) (run-append kind (a .session) hs ks)
-    ∙ ap (λ (o : List ℕ). record { session = runOf kind (x .session) ks .session; octets = o }) (sym (append-assoc (a .octets) (x .octets) (runOf kind (x .session) ks .octets)))
+    let y = runOf kind (x .session) ks in
+    ap (before a) (run-append kind (a .session) hs ks)
+    ∙ ap₂ (recorded (y .session)) (sym (append-assoc (a .octets) (x .octets) (y .octets))) (sym (append-assoc (a .answers) (x .answers) (y .answers)))
 
 one-step : (kind : Kind) (s : Session) (h : Heard) → runOf kind s (h ∷ []) ≡ stepOf kind s h
 unfolding runOf andThen
-one-step kind s h = ap (λ (o : List ℕ). record { session = stepOf kind s h .session; octets = o }) (append-nil (stepOf kind s h .octets))
+one-step kind s h = ap₂ (recorded (stepOf kind s h .session)) (append-nil (stepOf kind s h .octets)) (append-nil (stepOf kind s h .answers))
+
+pub run-last : (kind : Kind) (s : Session) (hs : List Heard) (h : Heard) → runOf kind s (hs ++ (h ∷ [])) ≡ andThen (runOf kind s hs) (λ t. stepOf kind t h)
+unfolding andThen
+run-last kind s hs h = let a = runOf kind s hs in run-append kind s hs (h ∷ []) ∙ ap (before a) (one-step kind (a .session) h)
 
 run-more : (kind : Kind) (s : Session) (f : ℕ → Heard) (i : ℕ) → runOf kind s (upTo f (i + 1)) ≡ andThen (runOf kind s (upTo f i)) (λ t. stepOf kind t (f i))
-unfolding andThen
-run-more kind s f i =
-    let a = runOf kind s (upTo f i) in
-    ap (runOf kind s) (upTo-more f i) ∙ run-append kind s (upTo f i) (f i ∷ [])
-    ∙ ap (λ (b : Step). record { session = b .session; octets = a .octets ++ b .octets }) (one-step kind (a .session) (f i))
+run-more kind s f i = ap (runOf kind s) (upTo-more f i) ∙ run-last kind s (upTo f i) (f i)
 
 -- ---- the first session
 pub first-none : (c : List ℕ) (n : ℕ) → n ≡ countOf c → n ≡ 0 → neverOpened holdingShape ≡ firstSession (packetsIn c)
@@ -137,11 +145,11 @@ does-as : (a b : Step) (at : ℕ) (d e : List ℕ) (r : Run) → a ≡ b → Doe
 does-as a b at d e r q x = rw (← q) x
 
 -- nothing is done
-pub does-nothing : (a : Step) (d : List ℕ) (r : Run) → a ≡ record { session = r .session; octets = [] } → Does a (r .octets) d r d
-does-nothing a d r q = rw q (record { session = refl; counted = sym (add-zero (r .octets)); written = put-nothing d (r .octets) })
+pub does-nothing : (a : Step) (d : List ℕ) (r : Run) (w : List Taken) → a ≡ still (r .session) w → Does a (r .octets) d r d
+does-nothing a d r w q = rw q (record { session = refl; counted = sym (add-zero (r .octets)); written = put-nothing d (r .octets) })
 
 -- ---- an offer
-pub not-taken : (kind : Kind) (s t : Session) (a : Taken) (r : Refusal) → a ≡ Refused r → takenOf kind s t a ≡ record { session = s; octets = [] }
+pub not-taken : (kind : Kind) (s t : Session) (a : Taken) (r : Refusal) → a ≡ Refused r → takenOf kind s t a ≡ still s (Refused r ∷ [])
 unfolding takenOf
 not-taken kind s t a r q = ap (takenOf kind s t) q
 
@@ -165,12 +173,12 @@ pub twelve-is : (r : Refusal) (n : ℕ) → n ≡ numberOf r → eqb n 12 ≡ is
 unfolding isTwelve
 twelve-is r n e = ap (λ (i : ℕ). eqb i 12) e
 
-step-later : (kind : Kind) (s : Session) (h : Heard) (b : Bool) → b ≡ isTwelve (offeredTo (kind .table) s h .answer) → b ≡ true →
+pub step-later : (kind : Kind) (s : Session) (h : Heard) (b : Bool) → b ≡ isTwelve (offeredTo (kind .table) s h .answer) → b ≡ true →
     andThen (pouring (kind .table) s) (λ t. offering kind t h) ≡ stepOf kind s h
 unfolding stepOf
 step-later kind s h b e q = let z : isTwelve (offeredTo (kind .table) s h .answer) ≡ true = sym e ∙ q in simp z
 
-step-once : (kind : Kind) (s : Session) (h : Heard) (b : Bool) → b ≡ isTwelve (offeredTo (kind .table) s h .answer) → b ≡ false → offering kind s h ≡ stepOf kind s h
+pub step-once : (kind : Kind) (s : Session) (h : Heard) (b : Bool) → b ≡ isTwelve (offeredTo (kind .table) s h .answer) → b ≡ false → offering kind s h ≡ stepOf kind s h
 unfolding stepOf
 step-once kind s h b e q = let z : isTwelve (offeredTo (kind .table) s h .answer) ≡ false = sym e ∙ q in simp z
 
@@ -195,11 +203,11 @@ lost-fit v s h o e = rw e (lost-few v s h)
 
 -- ---- pouring, into room for any group
 module _ (v : FrameTable) (w : T (within 22 v)) (z : T (erases v)) (s : Session) (room room′ : List ℕ) (long : length room ≡ 1840) where
-  pub pours-none : (a : Written) (r : Refusal) → Writes (pourMade (voiceWith v) s) room a room′ → a ≡ written.Refused r → pouring v s ≡ record { session = s; octets = [] }
+  pub pours-none : (a : Written) (r : Refusal) → Writes (pourMade (voiceWith v) s) room a room′ → a ≡ written.Refused r → pouring v s ≡ still s []
   unfolding pouring pouredOf writtenOf
   pours-none a r x q = go (pourMade (voiceWith v) s) refl (sym q ∙ x .answer)
     where
-      go : (m : Made) → pourMade (voiceWith v) s ≡ m → written.Refused r ≡ writtenOf m room → pouredOf s m ≡ record { session = s; octets = [] }
+      go : (m : Made) → pourMade (voiceWith v) s ≡ m → written.Refused r ≡ writtenOf m room → pouredOf s m ≡ still s []
       go (refusedOutput y) e a = refl
       go (octets y) e a =
           let h : length y ≤ length room = omega (arith, pour-most v w z s y e) in
@@ -209,7 +217,7 @@ module _ (v : FrameTable) (w : T (within 22 v)) (z : T (erases v)) (s : Session)
 
   -- the octets that were poured, of the room that was lent
   pub record Poured (n : ℕ) : Type 0 where
-    pub step : pouring v s ≡ record { session = ended holdingShape s; octets = take n room′ }
+    pub step : pouring v s ≡ record { session = ended holdingShape s; octets = take n room′; answers = [] }
     pub count : n ≡ length (take n room′)
     pub inside : n ≤ length room′
     pub few : n ≤ 1840
@@ -228,7 +236,7 @@ module _ (v : FrameTable) (w : T (within 22 v)) (z : T (erases v)) (s : Session)
           let f : room′ ≡ y ++ drop (length y) room = o ∙ simp k in
           let t : take n room′ ≡ y = ap (take n) f ∙ take-at y (drop (length y) room) n (sym q) in
           record {
-            step = ap (pouredOf s) e ∙ ap (λ (l : List ℕ). record { session = ended holdingShape s; octets = l }) (sym t);
+            step = ap (pouredOf s) e ∙ ap (λ (l : List ℕ). recorded (ended holdingShape s) l []) (sym t);
             count = q ∙ ap length (sym t);
             inside = omega (arith, ap length f, length-append y (drop (length y) room));
             few = omega arith;
@@ -261,9 +269,12 @@ module _ (kind : Kind) (s : Session) (at : ℕ) (d : List ℕ) where
   run-again f i r r′ e e′ x y =
       does-as _ _ at d e′ r′ (sym (run-more kind s f i)) (does-then (runOf kind s (upTo f i)) _ (λ t. stepOf kind t (f i)) at d e e′ r r′ x (ap (λ (t : Session). stepOf kind t (f i)) (x .session)) y)
 
+  pub run-first : (f : ℕ → Heard) (i n : ℕ) (r : Run) (e : List ℕ) → i ≡ n → Does (runOf kind s (upTo f i)) at d r e → Does (runOf kind s (upTo f n)) at d r e
+  run-first f i n r e q x = rw (← q) x
+
   pub run-all : (c : List ℕ) (i : ℕ) (r : Run) (e : List ℕ) → i ≡ countOf c → Does (runOf kind s (upTo (heardAt c) i)) at d r e → Does (runOf kind s (packetsIn c)) at d r e
   unfolding packetsIn
-  run-all c i r e q x = rw (← q) x
+  run-all c i r e q x = run-first (heardAt c) i (countOf c) r e q x
 
 -- what it has recorded is few octets
 pub run-fits : (kind : Kind) → T (within 22 (kind .table)) → T (erases (kind .table)) → (c : List ℕ) → good c ≡ true → (i n at : ℕ) → n ≡ countOf c → i ≤ n → at ≡ 7
@@ -302,7 +313,7 @@ opening-put kind out out′ r x h =
 whole : (kind : Kind) (c out out₁ out₂ : List ℕ) (r : Run) → length (kind .opening) ≡ 7 → Put out 0 (kind .opening) out₁
     → Does (andThen (runOf kind (firstSession (packetsIn c)) (packetsIn c)) (pouring (kind .table))) 7 out₁ r out₂
     → (r .octets ≡ length (captureRecording kind c)) × Put out 0 (captureRecording kind c) out₂
-unfolding captureRecording entriesRecorded
+unfolding captureRecording entriesRecorded wholeRun
 whole kind c out out₁ out₂ r l p d =
     let ys = andThen (runOf kind (firstSession (packetsIn c)) (packetsIn c)) (pouring (kind .table)) .octets in
     let e : 0 + length (kind .opening) ≡ 7 = omega arith in
@@ -318,7 +329,7 @@ whole-run kind c out out₁ out₂ out₃ s r r′ l e p x y =
 
 -- nothing is larger
 pub largest-is : (kind : Kind) → T (within 22 (kind .table)) → T (erases (kind .table)) → (c : List ℕ) → length (kind .opening) ≡ 7 → good c ≡ true → length (captureRecording kind c) ≤ largest
-unfolding captureRecording entriesRecorded packetsIn
+unfolding captureRecording entriesRecorded wholeRun packetsIn
 largest-is kind w z c l g =
     let few : length (packetsIn c) ≤ 256 = omega (arith, length-upTo (heardAt c) (countOf c), good-is c g .few) in
     let y = all-few kind w z (packetsIn c) (packetsIn c) few in

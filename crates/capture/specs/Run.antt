@@ -3,7 +3,7 @@ use Prim.Native.Nat.{ℕ, _+_, _*_, _≤_}
 use mathlib.Core.Path.{_≡_}
 use mathlib.Core.Bool.{Bool, false, cond}
 use mathlib.Core.List.{List, [], _∷_, _++_}
-use lib.ListN.{length, replicate}
+use lib.ListN.{length, replicate, getD}
 use lib.Dec.{eqb}
 use Rattle.octets.specs.Octets.{over}
 use Rattle.frame.specs.declared.Vocoder.{Vocoder}
@@ -11,6 +11,7 @@ use Rattle.frame.specs.FrameTable.{FrameTable}
 use Rattle.frame.specs.Shape.{holdingShape, voiceWith}
 use Rattle.answers.specs.Answers.{numberOf}
 use Rattle.answers.specs.Outputs.{Made, octets, refusedOutput, writtenOf, outAfter}
+use Rattle.answers.specs.declared.Refusal.the-variants.{NotApplicable}
 use Rattle.form.specs.declared.Form.{Form}
 use Rattle.form.specs.declared.Form.the-variants.{Interleaved}
 use Rattle.form.specs.Agreed.{vocoderOf}
@@ -24,15 +25,27 @@ use Rattle.capture.specs.Capture.{Heard, packetsIn, good}
 use Rattle.capture.specs.declared.Run.{Run}
 use Rattle.capture.specs.declared.Outcome.{Outcome}
 use Rattle.capture.specs.declared.Outcome.the-variants as outcome
+use Rattle.capture.specs.declared.Told.{Told}
+use Rattle.capture.specs.declared.Told.the-variants as told
 
--- a step of the run: the session after it, and the octets that it records
+-- a step of the run: the session after it, the octets that it records, and what the packets of it were answered
 pub record Step : Type 0 where
   pub session : Session
   pub octets : List ℕ
+  pub answers : List Taken
+
+-- a step that records nothing
+abbrev pub still : Session → List Taken → Step
+still s answers = record { session = s; octets = []; answers = answers }
 
 -- a step, and then another from the session that it leaves
 unfoldable pub andThen : Step → (Session → Step) → Step
-andThen a f = record { session = f (a .session) .session; octets = a .octets ++ f (a .session) .octets }
+andThen a f =
+    record {
+      session = f (a .session) .session;
+      octets = a .octets ++ f (a .session) .octets;
+      answers = a .answers ++ f (a .session) .answers;
+    }
 
 -- "interleaved, maxima 7 and 10"
 unfoldable pub captureForm : Form
@@ -57,8 +70,8 @@ offeredTo table s h = offered (voiceWith table) s (h .source) (h .sequence) (h .
 
 -- "reported lost frames become entries 0E"; a refusal "skips the packet"
 unfoldable pub takenOf : Kind → Session → Session → Taken → Step
-takenOf kind s t (Accepted lost) = record { session = t; octets = replicate lost (kind .erasure) }
-takenOf kind s t (Refused r) = record { session = s; octets = [] }
+takenOf kind s t (Accepted lost) = record { session = t; octets = replicate lost (kind .erasure); answers = Accepted lost ∷ [] }
+takenOf kind s t (Refused r) = still s (Refused r ∷ [])
 
 -- the lost frames of an answer
 unfoldable pub lostIn : Taken → ℕ
@@ -71,8 +84,8 @@ offering kind s h = takenOf kind s (offeredTo (kind .table) s h .session) (offer
 
 -- the held group poured, if there is one
 unfoldable pub pouredOf : Session → Made → Step
-pouredOf s (octets w) = record { session = ended holdingShape s; octets = w }
-pouredOf s (refusedOutput r) = record { session = s; octets = [] }
+pouredOf s (octets w) = record { session = ended holdingShape s; octets = w; answers = [] }
+pouredOf s (refusedOutput r) = still s []
 
 -- the step that pouring is: the group's entries, and the session after it
 unfoldable pub pouring : FrameTable → Session → Step
@@ -88,14 +101,28 @@ unfoldable pub stepOf : Kind → Session → Heard → Step
 stepOf kind s h =
     cond (isTwelve (offeredTo (kind .table) s h .answer)) (andThen (pouring (kind .table) s) (λ t. offering kind t h)) (offering kind s h)
 
+-- what the packet is answered by it: the first answer, and on 12 the second
+abbrev pub answeredBy : Kind → Session → Heard → Taken
+answeredBy kind s h =
+    let o = offeredTo (kind .table) s h in
+    cond (isTwelve (o .answer)) (offeredTo (kind .table) (pouring (kind .table) s .session) h .answer) (o .answer)
+
 -- all packets of the capture, one after the other
 unfoldable pub runOf : Kind → Session → List Heard → Step
-runOf kind s [] = record { session = s; octets = [] }
+runOf kind s [] = still s []
 runOf kind s (h ∷ hs) = andThen (stepOf kind s h) (λ t. runOf kind t hs)
 
--- what is recorded of these packets: "at the end it pours what is held"
+-- the whole run over these packets: "at the end it pours what is held"
+unfoldable pub wholeRun : Kind → List Heard → Step
+wholeRun kind hs = andThen (runOf kind (firstSession hs) hs) (pouring (kind .table))
+
+-- what is recorded of these packets
 unfoldable pub entriesRecorded : Kind → List Heard → List ℕ
-entriesRecorded kind hs = andThen (runOf kind (firstSession hs) hs) (pouring (kind .table)) .octets
+entriesRecorded kind hs = wholeRun kind hs .octets
+
+-- and what packet i of them was answered, after the second offer that a 12 brings; 21 if there is none
+unfoldable pub packetAnswered : Kind → List Heard → ℕ → Taken
+packetAnswered kind hs i = getD (wholeRun kind hs .answers) i (Refused NotApplicable)
 
 -- the recording of a capture: the opening octets, and what is recorded of its packets
 unfoldable pub captureRecording : Kind → List ℕ → List ℕ
@@ -122,6 +149,10 @@ pub record Does (step : Step) (at : ℕ) (before : List ℕ) (r : Run) (after : 
 unfoldable pub recordAnswer : Kind → List ℕ → List ℕ → Outcome
 recordAnswer kind c out = cond (good c) (outcome.Recorded (writtenOf (octets (captureRecording kind c)) out)) outcome.BadCapture
 
--- the lent output after it: a bad capture and 15 leave it as it was
+-- (02, i) "the capture library pass the place on": what packet i of a capture was answered in the run that makes its recording
+unfoldable pub answerOf : Kind → List ℕ → ℕ → Told
+answerOf kind c i = cond (good c) (told.Answered (packetAnswered kind (packetsIn c) i)) told.BadCapture
+
+-- the lent output after recording: a bad capture and 15 leave it as it was
 unfoldable pub recordOutput : Kind → List ℕ → List ℕ → List ℕ
 recordOutput kind c out = cond (good c) (outAfter (octets (captureRecording kind c)) out) out

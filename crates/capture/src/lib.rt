@@ -9,12 +9,14 @@ use session::Session;
 use session::Taken;
 ghost use mathlib.Core.Path.{_≡_};
 ghost use mathlib.Core.Bool.{true};
-ghost use Prim.Native.Nat.{_+_, _*_, _≤_};
+ghost use mathlib.Core.List.{[], _∷_};
+ghost use Prim.Native.Nat.{_+_, _*_, _<_, _≤_};
 ghost use lib.ListN.{length, replicate};
 ghost use lib.Dec.{leb};
+ghost use Rattle.frame.specs.Places.{upTo};
 ghost use Rattle.capture.specs.Capture.{countOf, lengthAt, lengths, startAt, heardAt, packetsIn, endFault, faultOf, good};
 ghost use Rattle.capture.specs.Run.{captureKind, firstSession, offeredTo, lostIn, largest, takenOf, isTwelve, pouring, stepOf, runOf};
-ghost use Rattle.capture.specs.Run.{captureRecording, Put, Does, recordAnswer, recordOutput};
+ghost use Rattle.capture.specs.Run.{captureRecording, Put, Does, recordAnswer, recordOutput, packetAnswered, answerOf};
 
 // The most octets that the recording of a capture can have.
 pub const LARGEST: usize = 331807;
@@ -33,6 +35,12 @@ const ERASURE: u8 = 0x0E;
 pub enum Outcome {
     BadCapture,
     Recorded(Written),
+}
+
+// What a packet of a capture was answered: the capture is bad; or the answer to its offer.
+pub enum Told {
+    BadCapture,
+    Answered(Taken),
 }
 
 // A run over a capture: its session, and the octets recorded so far.
@@ -261,18 +269,19 @@ fn first_session(capture: &[u8], count: usize) -> Session
     session
 }
 
-// The run over all packets.
-fn run_packets(begun: Run, capture: &[u8], count: usize, out: &mut [u8]) -> Run
+// The run over the first n packets.
+fn run_packets(begun: Run, capture: &[u8], count: usize, n: usize, out: &mut [u8]) -> Run
     requires { ⌜ (good (now capture) ≡ true)
         × (count ≡ countOf (now capture))
+        × (n ≤ count)
         × (begun .octets ≡ 7)
         × (begun .session ≡ firstSession (packetsIn (now capture))) ⌝ }
-    ensures { λ r. ⌜ Does (runOf captureKind (begun .session) (packetsIn (now (capture .entry)))) (begun .octets) (now (out .entry)) r (now (out .exit)) ⌝ }
+    ensures { λ r. ⌜ Does (runOf captureKind (begun .session) (upTo (heardAt (now (capture .entry))) n)) (begun .octets) (now (out .entry)) r (now (out .exit)) ⌝ }
 {
     let mut run = begun;
     let mut start = 2 + 12 * count;
     let mut i: usize = 0;
-    while i < count {
+    while i < n {
         run = step(run, capture, i, start, out);
         start = start + octets::two(capture, 2 + 12 * i + 10) as usize;
         i = i + 1;
@@ -290,7 +299,7 @@ fn run_capture(capture: &[u8], out: &mut [u8]) -> usize
     recording::write(Vocoder::Evrc, &capture[..0], out);
     let session = first_session(capture, count);
     let begun = Run { session, octets: 7 };
-    let run = run_packets(begun, capture, count, out);
+    let run = run_packets(begun, capture, count, count, out);
     let ended = pour_group(run, out);
     ended.octets
 }
@@ -330,4 +339,54 @@ pub fn record(capture: &[u8], out: &mut [u8]) -> Outcome
     }
     let count = run_capture(capture, out);
     Outcome::Recorded(Written::Octets(count))
+}
+
+// What packet i, whose payload begins at start, is answered by a session: on 12 its group is poured and the packet offered again.
+fn answer_packet(session: Session, capture: &[u8], i: usize, start: usize) -> Taken
+    requires { ⌜ (2 + 12 * (i + 1) ≤ length (now capture))
+        × (start ≡ startAt (now capture) i)
+        × (start + lengthAt (now capture) i ≤ length (now capture)) ⌝ }
+    ensures { λ r. ⌜ stepOf captureKind session (heardAt (now (capture .entry)) i) .answers ≡ r ∷ [] ⌝ }
+{
+    let offered = offer_packet(session, capture, i, start);
+    let answer = offered.answer;
+    let later = is_twelve(answer);
+    if later {
+        let mut none = [0u8; 0];
+        let poured = pour_group(Run { session, octets: 0 }, &mut none);
+        let next = poured.session;
+        let again = offer_packet(next, capture, i, start);
+        let second = again.answer;
+        return second;
+    }
+    answer
+}
+
+// What packet i of a good capture is answered: the run over the packets before it, with no room, and then its own step.
+fn answer_in(capture: &[u8], count: usize, i: usize) -> Taken
+    requires { ⌜ (good (now capture) ≡ true) × (count ≡ countOf (now capture)) × (i < count) ⌝ }
+    ensures { λ r. ⌜ r ≡ packetAnswered captureKind (packetsIn (now (capture .entry))) i ⌝ }
+{
+    let mut none = [0u8; 0];
+    let session = first_session(capture, count);
+    let begun = Run { session, octets: 7 };
+    let run = run_packets(begun, capture, count, i, &mut none);
+    let next = run.session;
+    let start = 2 + 12 * count + payload_octets(capture, i);
+    answer_packet(next, capture, i, start)
+}
+
+// What packet i of a capture was answered in the run that `record` makes: 21 where there is no packet i.
+pub fn answer(capture: &[u8], i: usize) -> Told
+    ensures { λ r. ⌜ r ≡ answerOf captureKind (now (capture .entry)) i ⌝ }
+{
+    let good = is_good(capture);
+    if !good {
+        return Told::BadCapture;
+    }
+    let count = octets::two(capture, 0) as usize;
+    if count <= i {
+        return Told::Answered(Taken::Refused(Refusal::NotApplicable));
+    }
+    Told::Answered(answer_in(capture, count, i))
 }

@@ -41,7 +41,7 @@ add-t18 c =
 
 returns : tie.Need-returns
 returns c =
-    does-nothing _ _ _
+    does-nothing _ _ _ _
     (pours-none (captureKind .table) table-fits table-erases _ _ _ (length-replicate {A = ℕ} 1840 0) _ _ (c .before .before .before .pour .ensures .0) (c .enum-told .given .1))
 
 same-length : tie.Need-same-length

@@ -1,9 +1,10 @@
 -- `capture::run_capture` meets its contract.
 use mathlib.Core.Path.{refl}
+use native.Mathlib.Nat.{le-refl}
 use native.Mathlib.Omega.{arith}
 use borrow.Author.Needs.{needs}
 use Rattle.capture.specs.Run.{captureKind}
-use Rattle.capture.proofs.RunLaws.{table-fits, table-erases, all-fits, opening-put, whole-run}
+use Rattle.capture.proofs.RunLaws.{table-fits, table-erases, run-all, all-fits, opening-put, whole-run}
 use Rattle.capture.proofs.CaptureLaws.{good-is, table-in}
 use Rattle.capture.proofs.run_capture.Statement.{statement}
 use Rattle.capture.proofs.run_capture.Tie as tie
@@ -30,13 +31,15 @@ run-packets-requires : tie.Need-run-packets-requires
 run-packets-requires c κs =
     let at-two = c .before .before .before .before .before .before .before in
     let start = at-two .before .before .before in
-    (start .pre, at-two .two .ensures, refl, c .before .first-session .ensures)
+    (start .pre, at-two .two .ensures, le-refl _, refl, c .before .first-session .ensures)
 
 pour-group-requires : tie.Need-pour-group-requires
 pour-group-requires c κs =
     let at-first-session = c .before .before .before .before .before in
-    let start = at-first-session .before .before .before .before .before .before .before .before .before in
-    omega (arith, all-fits captureKind table-fits table-erases _ (start .pre) _ (at-first-session .first-session .ensures) _ _ _ (c .before .before .before .run-packets .ensures))
+    let at-two = at-first-session .before .before .before .before .before .before in
+    let start = at-two .before .before .before in
+    let run = run-all _ _ _ _ _ _ _ _ (at-two .two .ensures) (c .before .before .before .run-packets .ensures) in
+    omega (arith, all-fits captureKind table-fits table-erases _ (start .pre) _ (at-first-session .first-session .ensures) _ _ _ run)
 
 same-length : tie.Need-same-length
 same-length c = search needs
@@ -46,8 +49,10 @@ returns c =
     let at-run-packets = c .before .before .before .before .before .before in
     let at-first-session = at-run-packets .before .before in
     let at-write = at-first-session .before .before .before in
+    let at-two = at-write .before .before .before in
     whole-run captureKind _ _ _ _ _ _ _ _ refl (at-first-session .first-session .ensures)
-    (opening-put _ _ _ _ (at-write .write .ensures)) (at-run-packets .run-packets .ensures) (c .before .before .pour-group .ensures)
+    (opening-put _ _ _ _ (at-write .write .ensures)) (run-all _ _ _ _ _ _ _ _ (at-two .two .ensures) (at-run-packets .run-packets .ensures))
+    (c .before .before .pour-group .ensures)
 
 pub run-capture-spec : {M : Type 1} → statement M
 run-capture-spec =

@@ -1,5 +1,5 @@
 -- `capture::run_packets` meets its contract. The invariant: the run over the first i packets is done, and the next payload begins at start.
-use Prim.Native.Nat.{_-_, _≤_}
+use Prim.Native.Nat.{ℕ, _-_, _≤_, _<_}
 use mathlib.Core.Path.{_≡_, refl, _∙_}
 use native.Mathlib.Omega.{arith}
 use lib.ListN.{length}
@@ -7,19 +7,25 @@ use borrow.Author.Needs.{needs}
 use Rattle.frame.specs.Places.{upTo}
 use Rattle.capture.specs.Run.{captureKind, runOf, Does}
 use Rattle.capture.specs.Capture.{startAt, heardAt}
-use Rattle.capture.proofs.RunLaws.{table-fits, table-erases, run-none, run-again, run-all, run-fits}
+use Rattle.capture.proofs.RunLaws.{table-fits, table-erases, run-none, run-again, run-first, run-fits}
 use Rattle.capture.proofs.CaptureLaws.{good-is, start-first, start-more, turn}
 use Rattle.capture.proofs.run_packets.Statement.{statement}
 use Rattle.capture.proofs.run_packets.Tie as tie
 
+sooner : {i n m : ℕ} → i < n → n ≤ m → i < m
+sooner h k = omega arith
+
+le-trans : {i n m : ℕ} → i ≤ n → n ≤ m → i ≤ m
+le-trans h k = omega arith
+
 abbrev Inv-loop : tie.InvT-loop
-Inv-loop capture count out₀ run₀ start₀ i₀ out run start i =
-    (i ≤ count)
+Inv-loop capture count n out₀ run₀ start₀ i₀ out run start i =
+    (i ≤ n)
     × ((length out ≡ length out₀)
     × ((start ≡ startAt capture i) × Does (runOf captureKind (run₀ .session) (upTo (heardAt capture) i)) (run₀ .octets) out₀ run out))
 
 abbrev μ-loop : tie.MeasureT-loop
-μ-loop capture count out₀ run₀ start₀ i₀ out run start i = count - i
+μ-loop capture count n out₀ run₀ start₀ i₀ out run start i = n - i
 
 mul-start : tie.Need-mul-start Inv-loop μ-loop
 mul-start c =
@@ -40,13 +46,13 @@ step-requires : tie.Need-step-requires Inv-loop μ-loop
 step-requires c κs =
     let at-loop = c .before .before in
     let start = at-loop .before .before .before in
-    let t = turn _ (start .pre .0) _ _ _ (start .pre .1) (c .before .loop-test .taken) (at-loop .loop .inv .1 .1 .0) in (
+    let t = turn _ (start .pre .0) _ _ _ (start .pre .1) (sooner (c .before .loop-test .taken) (start .pre .2)) (at-loop .loop .inv .1 .1 .0) in (
       t .row-in,
       at-loop .loop .inv .1 .1 .0,
       t .payload-in,
       omega (
         arith,
-        run-fits captureKind table-fits table-erases _ (start .pre .0) _ _ _ (start .pre .1) (at-loop .loop .inv .0) (start .pre .2) _ (start .pre .3) _
+        run-fits captureKind table-fits table-erases _ (start .pre .0) _ _ _ (start .pre .1) (le-trans (at-loop .loop .inv .0) (start .pre .2)) (start .pre .3) _ (start .pre .4) _
             _ _ (at-loop .loop .inv .1 .1 .1),
       ),
     )
@@ -56,7 +62,7 @@ mul-two c =
     let at-loop-test = c .before .before .before .before in
     let at-loop = at-loop-test .before in
     let start = at-loop .before .before .before in
-    let t = turn _ (start .pre .0) _ _ _ (start .pre .1) (at-loop-test .loop-test .taken) (at-loop .loop .inv .1 .1 .0) in
+    let t = turn _ (start .pre .0) _ _ _ (start .pre .1) (sooner (at-loop-test .loop-test .taken) (start .pre .2)) (at-loop .loop .inv .1 .1 .0) in
     omega (arith, t .row-in, t .short)
 
 add-two : tie.Need-add-two Inv-loop μ-loop
@@ -64,7 +70,7 @@ add-two c =
     let at-loop-test = c .before .before .before .before in
     let at-loop = at-loop-test .before in
     let start = at-loop .before .before .before in
-    let t = turn _ (start .pre .0) _ _ _ (start .pre .1) (at-loop-test .loop-test .taken) (at-loop .loop .inv .1 .1 .0) in
+    let t = turn _ (start .pre .0) _ _ _ (start .pre .1) (sooner (at-loop-test .loop-test .taken) (start .pre .2)) (at-loop .loop .inv .1 .1 .0) in
     omega (arith, t .row-in, t .short)
 
 add-two-2 : tie.Need-add-two-2 Inv-loop μ-loop
@@ -72,7 +78,7 @@ add-two-2 c =
     let at-loop-test = c .before .before .before .before in
     let at-loop = at-loop-test .before in
     let start = at-loop .before .before .before in
-    let t = turn _ (start .pre .0) _ _ _ (start .pre .1) (at-loop-test .loop-test .taken) (at-loop .loop .inv .1 .1 .0) in
+    let t = turn _ (start .pre .0) _ _ _ (start .pre .1) (sooner (at-loop-test .loop-test .taken) (start .pre .2)) (at-loop .loop .inv .1 .1 .0) in
     omega (arith, t .row-in, t .short)
 
 two-requires : tie.Need-two-requires Inv-loop μ-loop
@@ -80,7 +86,7 @@ two-requires c κs =
     let at-loop-test = c .before .before .before .before in
     let at-loop = at-loop-test .before in
     let start = at-loop .before .before .before in
-    let t = turn _ (start .pre .0) _ _ _ (start .pre .1) (at-loop-test .loop-test .taken) (at-loop .loop .inv .1 .1 .0) in
+    let t = turn _ (start .pre .0) _ _ _ (start .pre .1) (sooner (at-loop-test .loop-test .taken) (start .pre .2)) (at-loop .loop .inv .1 .1 .0) in
     omega (arith, t .row-in)
 
 cast-start : tie.Need-cast-start Inv-loop μ-loop
@@ -91,7 +97,7 @@ add-start-2 c =
     let at-loop-test = c .before .before .before .before .before in
     let at-loop = at-loop-test .before in
     let start = at-loop .before .before .before in
-    let t = turn _ (start .pre .0) _ _ _ (start .pre .1) (at-loop-test .loop-test .taken) (at-loop .loop .inv .1 .1 .0) in
+    let t = turn _ (start .pre .0) _ _ _ (start .pre .1) (sooner (at-loop-test .loop-test .taken) (start .pre .2)) (at-loop .loop .inv .1 .1 .0) in
     omega (arith, t .payload-in, t .short, c .two .ensures)
 
 add-i : tie.Need-add-i Inv-loop μ-loop
@@ -99,7 +105,7 @@ add-i c =
     let at-loop-test = c .before .before .before .before .before in
     let at-loop = at-loop-test .before in
     let start = at-loop .before .before .before in
-    let t = turn _ (start .pre .0) _ _ _ (start .pre .1) (at-loop-test .loop-test .taken) (at-loop .loop .inv .1 .1 .0) in
+    let t = turn _ (start .pre .0) _ _ _ (start .pre .1) (sooner (at-loop-test .loop-test .taken) (start .pre .2)) (at-loop .loop .inv .1 .1 .0) in
     omega (arith, t .row-in, t .short)
 
 loop-less : tie.Need-loop-less Inv-loop μ-loop
@@ -125,8 +131,8 @@ same-length c = c .before .loop .inv .1 .0
 returns : tie.Need-returns Inv-loop μ-loop
 returns c =
     let start = c .before .before .before .before in
-    let e : c .before .loop .i ≡ start .args .count = omega arith in
-    run-all _ _ _ _ _ _ _ _ (e ∙ start .pre .1) (c .before .loop .inv .1 .1 .1)
+    let e : c .before .loop .i ≡ start .args .n = omega arith in
+    run-first _ _ _ _ _ _ _ _ _ e (c .before .loop .inv .1 .1 .1)
 
 pub run-packets-spec : {M : Type 1} → statement M
 run-packets-spec =

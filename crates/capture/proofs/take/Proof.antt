@@ -21,7 +21,7 @@ add-t12 c =
     omega (arith, lost-is _ _ (at-answer .answer .given .1), start .pre .1)
 
 returns : tie.Need-returns
-returns c = does-nothing _ _ _ (not-taken _ _ _ _ _ (c .enum-told .given .1))
+returns c = does-nothing _ _ _ _ (not-taken _ _ _ _ _ (c .enum-told .given .1))
 
 same-length : tie.Need-same-length
 same-length c = search needs

@@ -1,10 +1,15 @@
 /* The landing voice library: EVRC speech in RTP payloads, for a recorder written in C or C++.
  *
  * Every call returns a uint8_t: LV_OK (0), or the number of a refusal (enum lv_answer). Look at each answer.
- * Each call is total: whatever the numbers and octets are, it answers or refuses. A refusal changes no
- * out-parameter and no octet of a lent buffer, and octets past an answer's end stay unchanged. Every call's
- * promise is proved for all inputs; docs/PROMISES.md has them. lv_answer_text below is not one of the calls:
- * it is plain C, and stands here whole.
+ * Each call is total: whatever the numbers and octets are, it answers or refuses. A refusal changes no octet
+ * of a lent buffer and no out-parameter but `place`, and octets past an answer's end stay unchanged. Every
+ * call's promise is proved for all inputs; docs/PROMISES.md has them. lv_answer_text below is not one of the
+ * calls: it is plain C, and stands here whole.
+ *
+ * `place` is where the fault is: an octet's place, counted from 0. It is the one out-parameter that a refusal
+ * may set, and only a refusal that has a place; each call that has it says which those are. Otherwise *place
+ * is as it was before the call, also where the call accepts. 0 is a place, too: a host that wants to see
+ * whether there is one sets *place before the call, say to SIZE_MAX.
  *
  * What C itself asks of a caller, as no call can see it:
  *   - no pointer is null, also where the length beside it is 0;
@@ -24,8 +29,8 @@
 #include <stdint.h>
 
 /* The version in words; and as a number to be compared, 10000 x major + 100 x minor + patch. */
-#define LV_VERSION "2.1.0"
-#define LV_VERSION_NUMBER 20100
+#define LV_VERSION "3.0.0"
+#define LV_VERSION_NUMBER 30000
 
 #ifdef __cplusplus
 extern "C" {
@@ -132,49 +137,61 @@ static inline const char *lv_answer_text(uint8_t answer)
 
 /* Reads a payload in the agreed form. On LV_OK: *l and *n are the interleave length and index, *b the
  * number of frames, and *d the last entry's D bit. A header-free payload is read as l 0, n 0, b 1, d 0.
- * Refuses, in this order: 21; 1, 2, 3; for each entry 4, 6, 5; then 7, 8. Header-free: 9. */
+ * Refuses, in this order: 21; 1, 2, 3; for each entry 4, 6, 5; then 7, 8. Header-free: 9.
+ * 4 to 8 have a place in the payload: 4 its length; 5 and 6 the entry's place, the first entry's being 1; 7
+ * the place of the first body that does not fit whole, which is the length where nothing of it is there; 8
+ * the first octet left over. */
 uint8_t lv_payload_read(uint8_t form, uint8_t max_l, uint8_t max_b, const uint8_t *payload, size_t len,
-                        uint8_t *l, uint8_t *n, uint8_t *b, uint8_t *d);
+                        uint8_t *l, uint8_t *n, uint8_t *b, uint8_t *d, size_t *place);
 
 /* Finds frame k of a payload, k from 0. On LV_OK: *type is its type, and its body is the *size octets, at
  * most LV_BODY_MAX, at payload + *start; an empty body has size 0 and starts where it would lie. Spare
  * bits of a body are as they came.
- * Refuses as lv_payload_read does; a payload that can be read, with no frame k, answers 21. */
+ * Refuses as lv_payload_read does, with the same place; a payload that can be read, with no frame k, answers
+ * 21, which has none. */
 uint8_t lv_payload_frame(uint8_t form, uint8_t max_l, uint8_t max_b, const uint8_t *payload, size_t len,
-                         size_t k, uint8_t *type, size_t *start, size_t *size);
+                         size_t k, uint8_t *type, size_t *start, size_t *size, size_t *place);
 
 /* Writes packet n of an interleave group. The entries are the group's (l + 1) x b frames in time order, as
  * recording entries, whose F and D bits are ignored; the packet holds frames k x (l + 1) + n, k from 0 to
  * b - 1, with d in every table entry. On LV_OK: *written is the number of octets written to out.
  * Refuses, in this order: 21 (form not LV_INTERLEAVED, maxima out of range, d above 1), 2, 3, 6; for each
- * entry of the whole input 5, 19, 17; then 17 if there are not (l + 1) x b entries; then 15. */
+ * entry of the whole input 5, 19, 17; then 17 if there are not (l + 1) x b entries; then 15.
+ * 5 and 19 have a place: that of the entry's octet in entries, the first at 0. 17 has none, and neither has
+ * 6, which judges the number b here. */
 uint8_t lv_packet_write(uint8_t form, uint8_t max_l, uint8_t max_b, uint8_t l, uint8_t n, uint8_t b,
                         uint8_t d, const uint8_t *entries, size_t entries_len, uint8_t *out, size_t out_len,
-                        size_t *written);
+                        size_t *written, size_t *place);
 
 /* Writes a header-free packet: the body of the one entry, and nothing else. On LV_OK: *written is the
  * number of octets written to out.
  * Refuses, in this order: 21 (form not LV_HEADER_FREE); for each entry 5, 19, 17, a blank too; then 17 if
- * there is not exactly one entry; then 15. */
+ * there is not exactly one entry; then 15.
+ * 5 and 19 have a place: that of the entry's octet in entries, the first at 0. */
 uint8_t lv_packet_write_header_free(uint8_t form, uint8_t max_l, uint8_t max_b, const uint8_t *entries,
-                                    size_t entries_len, uint8_t *out, size_t out_len, size_t *written);
+                                    size_t entries_len, uint8_t *out, size_t out_len, size_t *written,
+                                    size_t *place);
 
 /* Reads a recording: the opening octets, then entries of one octet and a body. On LV_OK: *count is the
  * number of its frames.
- * Refuses, in this order: 18; entry by entry 5, 19. */
-uint8_t lv_recording_read(const uint8_t *recording, size_t len, size_t *count);
+ * Refuses, in this order: 18; entry by entry 5, 19.
+ * 5 and 19 have a place: that of the entry's octet in the recording, its opening counted, so that the first
+ * entry's is LV_OPENING_OCTETS. */
+uint8_t lv_recording_read(const uint8_t *recording, size_t len, size_t *count, size_t *place);
 
 /* Finds frame k of a recording, k from 0. On LV_OK: *type is its type, and its body is the *size octets,
  * at most LV_BODY_MAX, at recording + *start.
- * Refuses as lv_recording_read does; a recording that can be read, with no frame k, answers 21. */
+ * Refuses as lv_recording_read does, with the same place; a recording that can be read, with no frame k,
+ * answers 21, which has none. */
 uint8_t lv_recording_frame(const uint8_t *recording, size_t len, size_t k, uint8_t *type, size_t *start,
-                           size_t *size);
+                           size_t *size, size_t *place);
 
 /* Writes a recording: the opening octets, then the entries with their F and D bits cleared. On LV_OK:
  * *written is the number of octets written to out, LV_OPENING_OCTETS + entries_len.
- * Refuses, in this order: entry by entry 5, 19; then 15. */
+ * Refuses, in this order: entry by entry 5, 19; then 15.
+ * 5 and 19 have a place: that of the entry's octet in entries, the first at 0. */
 uint8_t lv_recording_write(const uint8_t *entries, size_t entries_len, uint8_t *out, size_t out_len,
-                           size_t *written);
+                           size_t *written, size_t *place);
 
 /* Records a capture: at most LV_CAPTURE_MAX octets, big-endian: a count (2, at most
  * LV_CAPTURE_PACKETS_MAX), then for each packet its source (4), sequence (2), timestamp (4) and length
@@ -183,6 +200,15 @@ uint8_t lv_recording_write(const uint8_t *entries, size_t entries_len, uint8_t *
  * out, at most LV_RECORDING_MAX.
  * Refuses, in this order: 255 (bad capture), 15. */
 uint8_t lv_capture_record(const uint8_t *capture, size_t len, uint8_t *out, size_t out_len, size_t *written);
+
+/* Tells what packet i of a capture, i from 0, was answered in the run that lv_capture_record makes: what
+ * lv_session_offer answered it; and where that was 12, what it answered the second time, after the group was
+ * poured. On LV_OK: the packet was held, or had been already, and *lost is the number of frames lost before
+ * the group that it begins, at most LV_LOST_MAX; 0 if it begins none.
+ * Refuses, in this order: 255 (bad capture), 21 (no packet i); then as the packet was refused, by 1, 2, 4 to
+ * 8, 10, 11, 13, 14 or 16: that packet was skipped.
+ * 4 to 8 have a place in that packet's payload, as lv_payload_read has them. */
+uint8_t lv_capture_answer(const uint8_t *capture, size_t len, size_t i, size_t *lost, size_t *place);
 
 /* Sessions and holdings live in octets that the host lends: a session hears one source, a holding is one
  * group as far as heard. The octets are the library's own: the host lends them, copies them and compares
@@ -202,10 +228,11 @@ uint8_t lv_session_open(uint32_t source, uint8_t form, uint8_t max_l, uint8_t ma
 /* Offers a packet to a session. On LV_OK: it is held, or was already, and *lost is the number of frames
  * lost before the group that it begins, at most LV_LOST_MAX; 0 if it begins none.
  * Refuses, in this order: 21 (not open, or len below LV_SESSION_OCTETS), 10, the payload's refusals (1 to
- * 9); then by its place 11, 12, 13, 14, 16. After 12 the host pours the group and offers the packet
- * again. */
+ * 9); then by where it stands 11, 12, 13, 14, 16. After 12 the host pours the group and offers the packet
+ * again.
+ * 4 to 8 have a place in the payload, as lv_payload_read has them. */
 uint8_t lv_session_offer(uint8_t *session, size_t len, uint32_t source, uint16_t sequence, uint32_t timestamp,
-                         const uint8_t *payload, size_t payload_len, size_t *lost);
+                         const uint8_t *payload, size_t payload_len, size_t *lost, size_t *place);
 
 /* Pours the group that a session holds, and ends it: its frames in time order as recording entries, those
  * not heard as erasures. The session remembers the group's numbers, and counts from them what is lost. On

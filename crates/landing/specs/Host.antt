@@ -1,10 +1,11 @@
--- Document 01, "Answers by number": what the C calls answer in numbers, and what every out-parameter holds afterwards.
+-- Document 01, "Answers by number", and document 02, (i): what the C calls answer in numbers, and what out-parameters hold afterwards.
 use Prim.Native.Nat.{ℕ}
 use mathlib.Core.List.{List}
 use mathlib.Core.Bool.{cond}
 use lib.Dec.{eqb}
-use Rattle.answers.specs.Answers.{numberOf}
-use Rattle.answers.specs.Faults.{faultPlain}
+use Rattle.answers.specs.Answers.{numberOf, placeOf}
+use Rattle.answers.specs.declared.Place.{Place}
+use Rattle.answers.specs.declared.Place.the-variants.{Octet, Nowhere}
 use Rattle.entries.specs.Kind.{Kind, kindOf}
 use Rattle.frame.specs.Places.{Given}
 use Rattle.frame.specs.Places as places
@@ -28,6 +29,8 @@ use Rattle.entries.specs.declared.Counted.the-variants as counted
 use Rattle.capture.specs.Run.{recordAnswer, recordOutput}
 use Rattle.capture.specs.declared.Outcome.{Outcome}
 use Rattle.capture.specs.declared.Outcome.the-variants as outcome
+use Rattle.capture.specs.declared.Told.{Told}
+use Rattle.capture.specs.declared.Told.the-variants as told
 use Rattle.answers.specs.declared.Answer.{Answer}
 use Rattle.answers.specs.declared.Answer.the-variants as answer
 use Rattle.holding.specs.declared.Described.{Described}
@@ -49,12 +52,12 @@ namedForm f l b =
 -- a payload read in the form that the host names
 unfoldable pub readNamed : Named → List ℕ → Reading
 readNamed (Agreed f) p = readAs (tableOf f) f p
-readNamed (Refused r) p = payload.refusedPayload (faultPlain r)
+readNamed (Refused r) p = payload.refusedPayload r
 
 -- and what it gives
 unfoldable pub givenNamed : Named → List ℕ → Given
 givenNamed (Agreed f) p = givenAs (tableOf f) f p
-givenNamed (Refused r) p = places.refusedFrames (faultPlain r)
+givenNamed (Refused r) p = places.refusedFrames r
 
 -- what the writers make in the form that the host names
 unfoldable pub packetNamed : Named → ℕ → ℕ → ℕ → ℕ → List ℕ → Made
@@ -66,23 +69,62 @@ unfoldable pub headerFreeNamed : Named → List ℕ → Made
 headerFreeNamed (Agreed f) es = headerFreeMade (kindOf (vocoderOf f)) f es
 headerFreeNamed (Refused r) es = outputs.refusedOutput r
 
+-- ---- (02, i) the place of a fault
+
+-- the place that each kind of answer has: that of its refusal, if the refusal has one. Of a payload
+unfoldable pub contentsPlace : Contents → Place
+contentsPlace (contents.Packet l n b d) = Nowhere
+contentsPlace (contents.Refused r) = placeOf r
+
+-- of a frame that was asked for
+unfoldable pub locatedPlace : Located → Place
+locatedPlace (located.At t s z) = Nowhere
+locatedPlace (located.Refused r) = placeOf r
+
+-- of a recording
+unfoldable pub countedPlace : Counted → Place
+countedPlace (counted.Frames n) = Nowhere
+countedPlace (counted.Refused r) = placeOf r
+
+-- of what writes
+unfoldable pub writtenPlace : Written → Place
+writtenPlace (written.Octets n) = Nowhere
+writtenPlace (written.Refused r) = placeOf r
+
+-- of an offer
+unfoldable pub takenPlace : Taken → Place
+takenPlace (taken.Accepted n) = Nowhere
+takenPlace (taken.Refused r) = placeOf r
+
+-- of a packet of a capture
+unfoldable pub toldPlace : Told → Place
+toldPlace told.BadCapture = Nowhere
+toldPlace (told.Answered a) = takenPlace a
+
+-- `place` after a call: the place of the answer; as it was where the answer has none
+unfoldable pub placeAfter : Place → ℕ → ℕ
+placeAfter (Octet at) p₀ = at
+placeAfter Nowhere p₀ = p₀
+
+-- ---- the answers, and the other out-parameters
+
 -- what a host sees of a payload: the answer, and its four numbers L, N, B and D
 pub data PacketTold : Type 0 where
   packetTold : (answer l n b d : ℕ) → PacketTold
 
--- 0 and the packet's; "each refusal returns its number and nothing else, and changes nothing lent"
+-- 0 and the packet's; a refusal returns its number "and changes nothing lent"
 unfoldable pub packetAfter : Contents → ℕ → ℕ → ℕ → ℕ → PacketTold
 packetAfter (contents.Packet l n b d) l₀ n₀ b₀ d₀ = packetTold 0 l n b d
 packetAfter (contents.Refused r) l₀ n₀ b₀ d₀ = packetTold (numberOf r) l₀ n₀ b₀ d₀
 
 -- what a host sees of a frame: the answer, and its type, start and size
-pub data PlaceTold : Type 0 where
-  placeTold : (answer type start size : ℕ) → PlaceTold
+pub data FrameTold : Type 0 where
+  frameTold : (answer type start size : ℕ) → FrameTold
 
 -- 0 and the frame's; or the refusal's number, and the rest as it was
-unfoldable pub placeAfter : Located → ℕ → ℕ → ℕ → PlaceTold
-placeAfter (located.At t s z) t₀ s₀ z₀ = placeTold 0 t s z
-placeAfter (located.Refused r) t₀ s₀ z₀ = placeTold (numberOf r) t₀ s₀ z₀
+unfoldable pub frameAfter : Located → ℕ → ℕ → ℕ → FrameTold
+frameAfter (located.At t s z) t₀ s₀ z₀ = frameTold 0 t s z
+frameAfter (located.Refused r) t₀ s₀ z₀ = frameTold (numberOf r) t₀ s₀ z₀
 
 -- what a host sees of a count: the answer, and the number
 pub data CountTold : Type 0 where
@@ -128,6 +170,11 @@ answerNumber (answer.Refused r) = numberOf r
 unfoldable pub takenAfter : Taken → ℕ → CountTold
 takenAfter (taken.Accepted n) n₀ = countTold 0 n
 takenAfter (taken.Refused r) n₀ = countTold (numberOf r) n₀
+
+-- and of a packet of a capture: 255 where the capture is bad
+unfoldable pub toldAfter : Told → ℕ → CountTold
+toldAfter told.BadCapture n₀ = countTold 255 n₀
+toldAfter (told.Answered a) n₀ = takenAfter a n₀
 
 -- a session opened in the form that the host names: 21 for none, before 15
 unfoldable pub openNamed : Named → ℕ → List ℕ → Answer

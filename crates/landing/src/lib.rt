@@ -1,8 +1,10 @@
 // The calls for a host in C (include/landing_voice.h): numbers and byte slices in, 0 or a refusal's number out.
 use answers::Answer;
+use answers::Place;
 use answers::Refusal;
 use answers::Written;
 use capture::Outcome;
+use capture::Told;
 use entries::Counted;
 use form::Form;
 use form::Limits;
@@ -13,18 +15,20 @@ use holding::Lost;
 use payload::Contents;
 use session::Taken;
 ghost use mathlib.Core.Path.{_≡_};
+ghost use Rattle.answers.specs.Answers.{numberOf, placeOf};
 ghost use Rattle.answers.specs.Outputs.{Writes, writtenOf};
 ghost use Rattle.entries.specs.Counting.{countedOf};
 ghost use Rattle.entries.specs.Kind.{kindOf};
 ghost use Rattle.frame.specs.Places.{locatedOf};
 ghost use Rattle.lending.specs.Laid.{sessionVoice, holdingVoice};
-ghost use Rattle.capture.specs.Run.{captureKind};
+ghost use Rattle.capture.specs.Run.{captureKind, answerOf};
 ghost use Rattle.lending.specs.Calls.{offerAnswer, offerOctets, pourOf, pourOctets, copyAnswer, copyOctets, endAnswer, endOctets};
 ghost use Rattle.lending.specs.Calls.{joinAnswer, joinOctets, pourHeld, dropAnswer, dropOctets, readHeld, lostOf};
 ghost use Rattle.payload.specs.Shown.{contentsOf};
 ghost use Rattle.recording.specs.Recording.{recordingRead, recordingMade};
 ghost use Rattle.recording.specs.Shown.{givenIn};
-ghost use Rattle.landing.specs.Host.{namedForm, readNamed, givenNamed, packetTold, packetAfter, placeTold, placeAfter};
+ghost use Rattle.landing.specs.Host.{contentsPlace, locatedPlace, countedPlace, writtenPlace, takenPlace, toldPlace, placeAfter};
+ghost use Rattle.landing.specs.Host.{namedForm, readNamed, givenNamed, packetTold, packetAfter, frameTold, frameAfter, toldAfter};
 ghost use Rattle.landing.specs.Host.{countTold, countAfter, writtenAfter, writeTold, writeAfter, packetNamed};
 ghost use Rattle.landing.specs.Host.{headerFreeNamed, outcomeAfter, recordAfter, answerNumber, takenAfter, openNamed};
 ghost use Rattle.landing.specs.Host.{openedNamed, holdingTold, holdingAfter, lostAfter};
@@ -43,6 +47,20 @@ fn form_named(form: u8, max_l: u8, max_b: u8) -> Named
         0 => Named::Agreed(Form::HeaderFree),
         1 => Named::Agreed(Form::Interleaved(Limits { max_l, max_b })),
         _ => Named::Refused(Refusal::NotApplicable),
+    }
+}
+
+// Tells a host of a refusal: its number, and its place where it has one.
+fn tell_refusal(reason: Refusal, place: &mut usize) -> u8
+    ensures { λ r. ⌜ (r ≡ numberOf reason) × (now (place .exit) ≡ placeAfter (placeOf reason) (now (place .entry))) ⌝ }
+{
+    let fault = reason.place();
+    match fault {
+        Place::Nowhere => reason.number(),
+        Place::Octet(at) => {
+            *place = at;
+            reason.number()
+        }
     }
 }
 
@@ -68,7 +86,7 @@ fn locate_named(form: u8, max_l: u8, max_b: u8, payload: &[u8], k: usize) -> Loc
     }
 }
 
-// Reads a payload: 0 and its L, N, B and D; or the refusal's number, and nothing written.
+// Reads a payload: 0 and its L, N, B and D; or the refusal's number, and nothing written but its place.
 #[no_mangle]
 pub extern "C" fn lv_payload_read(
     form: u8,
@@ -79,13 +97,16 @@ pub extern "C" fn lv_payload_read(
     n: &mut u8,
     b: &mut u8,
     d: &mut u8,
+    place: &mut usize,
 ) -> u8
-    ensures { λ r. ⌜ packetTold r (now (l .exit)) (now (n .exit)) (now (b .exit)) (now (d .exit))
-        ≡ packetAfter (contentsOf (readNamed (namedForm form «max_l» «max_b») (now (payload .entry)))) (now (l .entry)) (now (n .entry)) (now (b .entry)) (now (d .entry)) ⌝ }
+    ensures { λ r. ⌜ (packetTold r (now (l .exit)) (now (n .exit)) (now (b .exit)) (now (d .exit))
+        ≡ packetAfter (contentsOf (readNamed (namedForm form «max_l» «max_b») (now (payload .entry)))) (now (l .entry)) (now (n .entry)) (now (b .entry)) (now (d .entry)))
+        × (now (place .exit)
+        ≡ placeAfter (contentsPlace (contentsOf (readNamed (namedForm form «max_l» «max_b») (now (payload .entry))))) (now (place .entry))) ⌝ }
 {
     let held = read_named(form, max_l, max_b, payload);
     match held {
-        Contents::Refused(r) => r.number(),
+        Contents::Refused(r) => tell_refusal(r, place),
         Contents::Packet {
             l: got_l,
             n: got_n,
@@ -101,13 +122,20 @@ pub extern "C" fn lv_payload_read(
     }
 }
 
-// Tells a host where a frame lies: 0, and its type, start and size; or the refusal's number, and nothing written.
-fn tell_place(place: Located, kind: &mut u8, start: &mut usize, size: &mut usize) -> u8
-    ensures { λ r. ⌜ placeTold r (now (kind .exit)) (now (start .exit)) (now (size .exit))
-        ≡ placeAfter place (now (kind .entry)) (now (start .entry)) (now (size .entry)) ⌝ }
+// Tells a host where a frame lies: 0, and its type, start and size; or the refusal's number, and nothing written but its place.
+fn tell_frame(
+    frame: Located,
+    kind: &mut u8,
+    start: &mut usize,
+    size: &mut usize,
+    place: &mut usize,
+) -> u8
+    ensures { λ r. ⌜ (frameTold r (now (kind .exit)) (now (start .exit)) (now (size .exit))
+        ≡ frameAfter frame (now (kind .entry)) (now (start .entry)) (now (size .entry)))
+        × (now (place .exit) ≡ placeAfter (locatedPlace frame) (now (place .entry))) ⌝ }
 {
-    match place {
-        Located::Refused(r) => r.number(),
+    match frame {
+        Located::Refused(r) => tell_refusal(r, place),
         Located::At {
             kind: got_kind,
             start: got_start,
@@ -132,27 +160,33 @@ pub extern "C" fn lv_payload_frame(
     kind: &mut u8,
     start: &mut usize,
     size: &mut usize,
+    place: &mut usize,
 ) -> u8
-    ensures { λ r. ⌜ placeTold r (now (kind .exit)) (now (start .exit)) (now (size .exit))
-        ≡ placeAfter (locatedOf (givenNamed (namedForm form «max_l» «max_b») (now (payload .entry))) k) (now (kind .entry)) (now (start .entry)) (now (size .entry)) ⌝ }
+    ensures { λ r. ⌜ (frameTold r (now (kind .exit)) (now (start .exit)) (now (size .exit))
+        ≡ frameAfter (locatedOf (givenNamed (namedForm form «max_l» «max_b») (now (payload .entry))) k) (now (kind .entry)) (now (start .entry)) (now (size .entry)))
+        × (now (place .exit)
+        ≡ placeAfter (locatedPlace (locatedOf (givenNamed (namedForm form «max_l» «max_b») (now (payload .entry))) k)) (now (place .entry))) ⌝ }
 {
-    tell_place(
+    tell_frame(
         locate_named(form, max_l, max_b, payload, k),
         kind,
         start,
         size,
+        place,
     )
 }
 
-// Reads a recording: 0 and its frame count; or the refusal's number, and nothing written.
+// Reads a recording: 0 and its frame count; or the refusal's number, and nothing written but its place.
 #[no_mangle]
-pub extern "C" fn lv_recording_read(recording: &[u8], count: &mut usize) -> u8
-    ensures { λ r. ⌜ countTold r (now (count .exit))
-        ≡ countAfter (countedOf (recordingRead (kindOf Vocoder.Evrc) (now (recording .entry)))) (now (count .entry)) ⌝ }
+pub extern "C" fn lv_recording_read(recording: &[u8], count: &mut usize, place: &mut usize) -> u8
+    ensures { λ r. ⌜ (countTold r (now (count .exit))
+        ≡ countAfter (countedOf (recordingRead (kindOf Vocoder.Evrc) (now (recording .entry)))) (now (count .entry)))
+        × (now (place .exit)
+        ≡ placeAfter (countedPlace (countedOf (recordingRead (kindOf Vocoder.Evrc) (now (recording .entry))))) (now (place .entry))) ⌝ }
 {
     let held = recording::read(Vocoder::Evrc, recording);
     match held {
-        Counted::Refused(r) => r.number(),
+        Counted::Refused(r) => tell_refusal(r, place),
         Counted::Frames(n) => {
             *count = n;
             0
@@ -168,12 +202,15 @@ pub extern "C" fn lv_recording_frame(
     kind: &mut u8,
     start: &mut usize,
     size: &mut usize,
+    place: &mut usize,
 ) -> u8
-    ensures { λ r. ⌜ placeTold r (now (kind .exit)) (now (start .exit)) (now (size .exit))
-        ≡ placeAfter (locatedOf (givenIn (kindOf Vocoder.Evrc) (now (recording .entry))) k) (now (kind .entry)) (now (start .entry)) (now (size .entry)) ⌝ }
+    ensures { λ r. ⌜ (frameTold r (now (kind .exit)) (now (start .exit)) (now (size .exit))
+        ≡ frameAfter (locatedOf (givenIn (kindOf Vocoder.Evrc) (now (recording .entry))) k) (now (kind .entry)) (now (start .entry)) (now (size .entry)))
+        × (now (place .exit)
+        ≡ placeAfter (locatedPlace (locatedOf (givenIn (kindOf Vocoder.Evrc) (now (recording .entry))) k)) (now (place .entry))) ⌝ }
 {
-    let place = recording::locate(Vocoder::Evrc, recording, k);
-    tell_place(place, kind, start, size)
+    let frame = recording::locate(Vocoder::Evrc, recording, k);
+    tell_frame(frame, kind, start, size, place)
 }
 
 // Tells a host what was written: 0 and the octet count; or the refusal's number, and nothing written.
@@ -189,13 +226,38 @@ fn tell_written(made: Written, written: &mut usize) -> u8
     }
 }
 
+// The same of a call that is given entries, whose refusal may have a place.
+fn tell_written_at(made: Written, written: &mut usize, place: &mut usize) -> u8
+    ensures { λ r. ⌜ (countTold r (now (written .exit)) ≡ writtenAfter made (now (written .entry)))
+        × (now (place .exit) ≡ placeAfter (writtenPlace made) (now (place .entry))) ⌝ }
+{
+    match made {
+        Written::Refused(r) => tell_refusal(r, place),
+        Written::Octets(n) => {
+            *written = n;
+            0
+        }
+    }
+}
+
 // Writes a recording of entries.
 #[no_mangle]
-pub extern "C" fn lv_recording_write(entries: &[u8], out: &mut [u8], written: &mut usize) -> u8
-    ensures { λ r. ⌜ writeTold r (now (written .exit)) (now (out .exit))
-        ≡ writeAfter (recordingMade (kindOf Vocoder.Evrc) (now (entries .entry))) (now (written .entry)) (now (out .entry)) ⌝ }
+pub extern "C" fn lv_recording_write(
+    entries: &[u8],
+    out: &mut [u8],
+    written: &mut usize,
+    place: &mut usize,
+) -> u8
+    ensures { λ r. ⌜ (writeTold r (now (written .exit)) (now (out .exit))
+        ≡ writeAfter (recordingMade (kindOf Vocoder.Evrc) (now (entries .entry))) (now (written .entry)) (now (out .entry)))
+        × (now (place .exit)
+        ≡ placeAfter (writtenPlace (writtenOf (recordingMade (kindOf Vocoder.Evrc) (now (entries .entry))) (now (out .entry)))) (now (place .entry))) ⌝ }
 {
-    tell_written(recording::write(Vocoder::Evrc, entries, out), written)
+    tell_written_at(
+        recording::write(Vocoder::Evrc, entries, out),
+        written,
+        place,
+    )
 }
 
 // Packet N written in the form that is named; 21 if none is.
@@ -232,13 +294,17 @@ pub extern "C" fn lv_packet_write(
     entries: &[u8],
     out: &mut [u8],
     written: &mut usize,
+    place: &mut usize,
 ) -> u8
-    ensures { λ r. ⌜ writeTold r (now (written .exit)) (now (out .exit))
-        ≡ writeAfter (packetNamed (namedForm form «max_l» «max_b») l n b d (now (entries .entry))) (now (written .entry)) (now (out .entry)) ⌝ }
+    ensures { λ r. ⌜ (writeTold r (now (written .exit)) (now (out .exit))
+        ≡ writeAfter (packetNamed (namedForm form «max_l» «max_b») l n b d (now (entries .entry))) (now (written .entry)) (now (out .entry)))
+        × (now (place .exit)
+        ≡ placeAfter (writtenPlace (writtenOf (packetNamed (namedForm form «max_l» «max_b») l n b d (now (entries .entry))) (now (out .entry)))) (now (place .entry))) ⌝ }
 {
-    tell_written(
+    tell_written_at(
         packet_named(form, max_l, max_b, l, n, b, d, entries, out),
         written,
+        place,
     )
 }
 
@@ -262,11 +328,18 @@ pub extern "C" fn lv_packet_write_header_free(
     entries: &[u8],
     out: &mut [u8],
     written: &mut usize,
+    place: &mut usize,
 ) -> u8
-    ensures { λ r. ⌜ writeTold r (now (written .exit)) (now (out .exit))
-        ≡ writeAfter (headerFreeNamed (namedForm form «max_l» «max_b») (now (entries .entry))) (now (written .entry)) (now (out .entry)) ⌝ }
+    ensures { λ r. ⌜ (writeTold r (now (written .exit)) (now (out .exit))
+        ≡ writeAfter (headerFreeNamed (namedForm form «max_l» «max_b») (now (entries .entry))) (now (written .entry)) (now (out .entry)))
+        × (now (place .exit)
+        ≡ placeAfter (writtenPlace (writtenOf (headerFreeNamed (namedForm form «max_l» «max_b») (now (entries .entry))) (now (out .entry)))) (now (place .entry))) ⌝ }
 {
-    tell_written(header_free_named(form, max_l, max_b, entries, out), written)
+    tell_written_at(
+        header_free_named(form, max_l, max_b, entries, out),
+        written,
+        place,
+    )
 }
 
 // What became of a capture, as a number: 0 and the octets written, the number of a refusal, or 255.
@@ -300,17 +373,43 @@ fn tell(answer: Answer) -> u8
     }
 }
 
-// The answer to an offer as a number: 0 and the lost frames, or the number of the refusal.
-fn tell_taken(answer: Taken, lost: &mut usize) -> u8
-    ensures { λ r. ⌜ countTold r (now (lost .exit)) ≡ takenAfter answer (now (lost .entry)) ⌝ }
+// The answer to an offer as a number: 0 and the lost frames, or the number of the refusal and its place.
+fn tell_taken(answer: Taken, lost: &mut usize, place: &mut usize) -> u8
+    ensures { λ r. ⌜ (countTold r (now (lost .exit)) ≡ takenAfter answer (now (lost .entry)))
+        × (now (place .exit) ≡ placeAfter (takenPlace answer) (now (place .entry))) ⌝ }
 {
     match answer {
-        Taken::Refused(reason) => reason.number(),
+        Taken::Refused(reason) => tell_refusal(reason, place),
         Taken::Accepted(n) => {
             *lost = n;
             0
         }
     }
+}
+
+// What a packet of a capture was answered, as a number; 255 where the capture is bad.
+fn tell_told(told: Told, lost: &mut usize, place: &mut usize) -> u8
+    ensures { λ r. ⌜ (countTold r (now (lost .exit)) ≡ toldAfter told (now (lost .entry)))
+        × (now (place .exit) ≡ placeAfter (toldPlace told) (now (place .entry))) ⌝ }
+{
+    match told {
+        Told::BadCapture => 255,
+        Told::Answered(answer) => tell_taken(answer, lost, place),
+    }
+}
+
+// What packet i of a capture was answered in the run that lv_capture_record makes; 255 for a bad capture, 21 where there is none.
+#[no_mangle]
+pub extern "C" fn lv_capture_answer(
+    capture: &[u8],
+    i: usize,
+    lost: &mut usize,
+    place: &mut usize,
+) -> u8
+    ensures { λ r. ⌜ (countTold r (now (lost .exit)) ≡ toldAfter (answerOf captureKind (now (capture .entry)) i) (now (lost .entry)))
+        × (now (place .exit) ≡ placeAfter (toldPlace (answerOf captureKind (now (capture .entry)) i)) (now (place .entry))) ⌝ }
+{
+    tell_told(capture::answer(capture, i), lost, place)
 }
 
 // A lent session opened in the form that is named: 21 for no form, before 15 for too few octets.
@@ -349,14 +448,18 @@ pub extern "C" fn lv_session_offer(
     timestamp: u32,
     payload: &[u8],
     lost: &mut usize,
+    place: &mut usize,
 ) -> u8
     ensures { λ r. ⌜ (countTold r (now (lost .exit))
         ≡ takenAfter (offerAnswer (sessionVoice (now (session .entry))) (now (session .entry)) source sequence timestamp (now (payload .entry))) (now (lost .entry)))
+        × (now (place .exit)
+        ≡ placeAfter (takenPlace (offerAnswer (sessionVoice (now (session .entry))) (now (session .entry)) source sequence timestamp (now (payload .entry)))) (now (place .entry)))
         × (now (session .exit) ≡ offerOctets (sessionVoice (now (session .entry))) (now (session .entry)) source sequence timestamp (now (payload .entry))) ⌝ }
 {
     tell_taken(
         lending::offer(session, source, sequence, timestamp, payload),
         lost,
+        place,
     )
 }
 

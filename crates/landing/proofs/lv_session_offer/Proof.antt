@@ -15,8 +15,8 @@ same-length c = search needs
 
 returns : tie.Need-returns
 returns c =
-    let at-offer = c .before .before .before .before in
-    taken-on _ _ _ _ _ _ _ (c .tell-taken .ensures) (at-offer .offer .ensures)
+    let at-offer = c .before .before .before .before .before in
+    taken-on _ _ _ _ _ _ _ _ _ (c .tell-taken .ensures) (at-offer .offer .ensures)
 
 pub lv-session-offer-spec : {M : Type 1} → statement M
 lv-session-offer-spec = tie.close (tie.spec offer-requires tell-taken-requires same-length returns)

@@ -13,8 +13,9 @@ use Rattle.session.specs.Session.{offered, pourMade, afterPour}
 use Rattle.session.specs.declared.Session.{Session}
 use Rattle.lending.specs.Calls.{offerAnswer, offerOctets, pourOf, pourOctets}
 use Rattle.lending.specs.Laid.{sessionVoice}
-use Rattle.landing.specs.Host.{CountTold, countTold, takenAfter, WriteTold, writeTold, writeAfter}
-use Rattle.claims.specs.Call.{Call, Passed, Returned, Ended, Outcome, Build}
+use Rattle.session.specs.declared.Taken.{Taken}
+use Rattle.landing.specs.Host.{CountTold, countTold, takenAfter, WriteTold, writeTold, writeAfter, takenPlace, placeAfter}
+use Rattle.claims.specs.Call.{Call, WithPlace, Passed, Returned, Ended, Outcome, Build}
 use Rattle.claims.specs.Calls.Lent.{LentSessionLost, LentSessionOutWritten}
 use Rattle.claims.specs.Calls.Landing as landing
 use Rattle.claims.specs.Calls.Packet as packet
@@ -99,19 +100,28 @@ told-write (writeTold x n out) = refl
 
 host-offer-built : Build landing.lvSessionOffer
 host-offer-built = record {
-  run = λ g o. (count-seen (told g o) .0, record { session = after g o; lost = count-seen (told g o) .1 .count });
-  meets = λ g o. exactly {call = landing.lvSessionOffer} ([], ([], ([], tt)))
-      (lies (o .session), (g .0, (g .1 .0, (g .1 .1 .0, (lies (g .1 .1 .1), (lies (o .lost), tt))))))
+  run = λ g o. (
+    count-seen (told g o) .0,
+    record { place = place g o; rest = record { session = after g o; lost = count-seen (told g o) .1 .count } },
+  );
+  meets = λ g o. exactly {call = landing.lvSessionOffer} ([], ([], ([], ([], tt))))
+      (lies (o .rest .session), (g .0, (g .1 .0, (g .1 .1 .0, (lies (g .1 .1 .1), (lies (o .rest .lost), (lies (o .place), tt)))))))
       (count-seen (told g o) .0)
-      (lies (after g o), (g .0, (g .1 .0, (g .1 .1 .0, (lies (g .1 .1 .1), (lies (count-seen (told g o) .1 .count), tt))))))
-      (told-count (told g o), refl);
+      (lies (after g o), (g .0, (g .1 .0, (g .1 .1 .0, (lies (g .1 .1 .1), (lies (count-seen (told g o) .1 .count), (lies (place g o), tt)))))))
+      (told-count (told g o), refl, refl);
 }
   where
-    told : landing.lvSessionOffer .Given → LentSessionLost → CountTold
-    told g o = takenAfter (offerAnswer (sessionVoice (o .session)) (o .session) (g .0) (g .1 .0) (g .1 .1 .0) (g .1 .1 .1)) (o .lost)
+    taken : landing.lvSessionOffer .Given → WithPlace LentSessionLost → Taken
+    taken g o = offerAnswer (sessionVoice (o .rest .session)) (o .rest .session) (g .0) (g .1 .0) (g .1 .1 .0) (g .1 .1 .1)
 
-    after : landing.lvSessionOffer .Given → LentSessionLost → List ℕ
-    after g o = offerOctets (sessionVoice (o .session)) (o .session) (g .0) (g .1 .0) (g .1 .1 .0) (g .1 .1 .1)
+    told : landing.lvSessionOffer .Given → WithPlace LentSessionLost → CountTold
+    told g o = takenAfter (taken g o) (o .rest .lost)
+
+    place : landing.lvSessionOffer .Given → WithPlace LentSessionLost → ℕ
+    place g o = placeAfter (takenPlace (taken g o)) (o .place)
+
+    after : landing.lvSessionOffer .Given → WithPlace LentSessionLost → List ℕ
+    after g o = offerOctets (sessionVoice (o .rest .session)) (o .rest .session) (g .0) (g .1 .0) (g .1 .1 .0) (g .1 .1 .1)
 
 host-pour-built : Build landing.lvSessionPour
 host-pour-built = record {

@@ -25,8 +25,8 @@ use Rattle.session.specs.declared.Session.{Session}
 use Rattle.session.specs.declared.Offered.{Offered}
 use Rattle.lending.specs.Calls.{offerAnswer, offerOctets, pourOf}
 use Rattle.lending.specs.Laid.{sessionVoice}
-use Rattle.landing.specs.Host.{countTold, takenAfter, writeTold, writeAfter}
-use Rattle.claims.specs.Call.{Call, Passed, Returned, Ended, Outcome, Build}
+use Rattle.landing.specs.Host.{countTold, takenAfter, writeTold, writeAfter, takenPlace, placeAfter}
+use Rattle.claims.specs.Call.{Call, WithPlace, Passed, Returned, Ended, Outcome, Build}
 use Rattle.claims.specs.Calls.Lent.{LentSessionLost, LentSessionOutWritten}
 use Rattle.claims.specs.Calls.Landing as landing
 use Rattle.claims.specs.Calls.Packet as packet
@@ -105,14 +105,18 @@ pours-so build s out =
     (λ κs a x e p. p) (build .meets s (record { out = out }))
 
 -- ---- the same of the C calls, on lent octets
-pub host-offer-told : {o after : LentSessionLost} {source sequence timestamp : ℕ} {p : List ℕ} {x : ℕ} →
+pub host-offer-told : {o after : WithPlace LentSessionLost} {source sequence timestamp : ℕ} {p : List ℕ} {x : ℕ} →
     Outcome landing.lvSessionOffer (source, (sequence, (timestamp, p))) o x after →
-    (countTold x (after .lost) ≡ takenAfter (offerAnswer (sessionVoice (o .session)) (o .session) source sequence timestamp p) (o .lost))
-    × (after .session ≡ offerOctets (sessionVoice (o .session)) (o .session) source sequence timestamp p)
+    let s = o .rest .session in
+    (countTold x (after .rest .lost) ≡ takenAfter (offerAnswer (sessionVoice s) s source sequence timestamp p) (o .rest .lost))
+    × (after .place ≡ placeAfter (takenPlace (offerAnswer (sessionVoice s) s source sequence timestamp p)) (o .place))
+    × (after .rest .session ≡ offerOctets (sessionVoice s) s source sequence timestamp p)
 host-offer-told c =
     by-name (λ g o x y.
-    (countTold x (y .lost) ≡ takenAfter (offerAnswer (sessionVoice (o .session)) (o .session) (g .0) (g .1 .0) (g .1 .1 .0) (g .1 .1 .1)) (o .lost))
-    × (y .session ≡ offerOctets (sessionVoice (o .session)) (o .session) (g .0) (g .1 .0) (g .1 .1 .0) (g .1 .1 .1)))
+    let s = o .rest .session in
+    (countTold x (y .rest .lost) ≡ takenAfter (offerAnswer (sessionVoice s) s (g .0) (g .1 .0) (g .1 .1 .0) (g .1 .1 .1)) (o .rest .lost))
+    × (y .place ≡ placeAfter (takenPlace (offerAnswer (sessionVoice s) s (g .0) (g .1 .0) (g .1 .1 .0) (g .1 .1 .1))) (o .place))
+    × (y .rest .session ≡ offerOctets (sessionVoice s) s (g .0) (g .1 .0) (g .1 .1 .0) (g .1 .1 .1)))
     (λ κs a x e p. p) c
 
 pub host-pours-so : (build : Build landing.lvSessionPour) (o : LentSessionOutWritten) →

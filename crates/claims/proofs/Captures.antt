@@ -1,6 +1,6 @@
 -- What holds of every capture. Assumes nothing.
 use Prim.Native.Nat.{ℕ}
-use mathlib.Core.Path.{_≡_, refl, ap, _∙_}
+use mathlib.Core.Path.{_≡_, refl, ap, ap₂, _∙_}
 use mathlib.Core.List.{List, [], _∷_, _++_, map, append-nil}
 use mathlib.Core.Bool.{Bool, true, false, cond}
 use lib.Dec.{eqb}
@@ -18,7 +18,7 @@ use Rattle.answers.specs.declared.Refusal.the-variants.{AnotherSource, NotAppli
 use Rattle.holding.proofs.GroupLaws.{nothing-is}
 use Rattle.capture.specs.Capture.{Heard, packetsIn}
 use Rattle.capture.specs.Run.{captureKind, Step, andThen, captureForm, firstSession, offeredTo, takenOf, offering, pouredOf, pouring, isTwelve, stepOf}
-use Rattle.capture.specs.Run.{runOf, entriesRecorded, captureRecording}
+use Rattle.capture.specs.Run.{runOf, wholeRun, entriesRecorded, captureRecording}
 use Rattle.capture.proofs.RunLaws.{table-fits, table-erases}
 use Rattle.capture.proofs.Largest.{step-source}
 use Rattle.capture.proofs.RunLaws.{largest-is}
@@ -30,40 +30,53 @@ use Rattle.claims.specs.Captures.{NothingIsLarger, CaptureExactlyIf}
 use Rattle.claims.proofs.Offering.{fresh-is-ready, offers-deliver}
 
 -- ---- another source leaves no trace
-other-step : (kind : Kind) (s : Session) (h : Heard) → eqb (h .source) (s .source) ≡ false → stepOf kind s h ≡ record { session = s; octets = [] }
+record Traceless (s : Session) (a : Step) : Type 0 where
+  session : a .session ≡ s
+  octets : a .octets ≡ []
+
+other-step : (kind : Kind) (s : Session) (h : Heard) → eqb (h .source) (s .source) ≡ false → Traceless s (stepOf kind s h)
 unfolding stepOf offering takenOf isTwelve offeredTo offered received refuse
 other-step kind s h e = rw e (go (isOpen (voiceWith (kind .table)) s))
   where
     go :
         (b : Bool) →
         let o = cond b (refuse s AnotherSource) (refuse s NotApplicable) in
-        cond (isTwelve (o .answer)) (andThen (pouring (kind .table) s) (λ t. offering kind t h)) (takenOf kind s (o .session) (o .answer))
-        ≡ record { session = s; octets = [] }
-    go true = refl
-    go false = refl
+        Traceless s (cond (isTwelve (o .answer)) (andThen (pouring (kind .table) s) (λ t. offering kind t h)) (takenOf kind s (o .session) (o .answer)))
+    go true = record { session = refl; octets = refl }
+    go false = record { session = refl; octets = refl }
 
-from-source : (kind : Kind) (s : Session) (x : ℕ) → s .source ≡ x → (hs : List Heard) → runOf kind s hs ≡ runOf kind s (fromSource x hs)
+-- two steps that leave the same session and record the same octets
+record Alike (a b : Step) : Type 0 where
+  session : a .session ≡ b .session
+  octets : a .octets ≡ b .octets
+
+from-source : (kind : Kind) (s : Session) (x : ℕ) → s .source ≡ x → (hs : List Heard) → Alike (runOf kind s hs) (runOf kind s (fromSource x hs))
 unfolding runOf andThen
-from-source kind s x q [] = refl
+from-source kind s x q [] = record { session = refl; octets = refl }
 from-source kind s x q (h ∷ hs) = go (λ (t : Session) (e : t .source ≡ x). from-source kind t x e hs) (eqb (h .source) x) refl
   where
     go :
-        ((t : Session) → t .source ≡ x → runOf kind t hs ≡ runOf kind t (fromSource x hs)) →
+        ((t : Session) → t .source ≡ x → Alike (runOf kind t hs) (runOf kind t (fromSource x hs))) →
         (b : Bool) →
         eqb (h .source) x ≡ b →
-        runOf kind s (h ∷ hs) ≡ runOf kind s (cond b (h ∷ fromSource x hs) (fromSource x hs))
-    go again true e = ap (λ (a : Step). record { session = a .session; octets = stepOf kind s h .octets ++ a .octets }) (again (stepOf kind s h .session) (step-source kind s h ∙ q))
+        Alike (runOf kind s (h ∷ hs)) (runOf kind s (cond b (h ∷ fromSource x hs) (fromSource x hs)))
+    go again true e =
+        let a = again (stepOf kind s h .session) (step-source kind s h ∙ q) in
+        record { session = a .session; octets = ap (λ (o : List ℕ). stepOf kind s h .octets ++ o) (a .octets) }
     go again false e =
-        let d : stepOf kind s h ≡ record { session = s; octets = [] } = other-step kind s h (ap (eqb (h .source)) q ∙ e) in
-        rw d (again s q)
+        let d = other-step kind s h (ap (eqb (h .source)) q ∙ e) in
+        let a = again s q in
+        record { session = rw (d .session) (a .session); octets = rw (d .octets, d .session) (a .octets) }
 
 pub first-source-alone : FirstSourceAlone
-unfolding FirstSourceAlone entriesRecorded firstSession fresh vacant
+unfolding FirstSourceAlone entriesRecorded wholeRun andThen firstSession fresh vacant
 first-source-alone kind h hs =
     let s = fresh holdingShape (h .source) captureForm in
     let e : eqb (h .source) (h .source) ≡ true = eq-eqb (h .source) (h .source) refl in
     let f : fromSource (h .source) (h ∷ hs) ≡ h ∷ fromSource (h .source) hs = simp e in
-    ap (λ (a : Step). andThen a (pouring (kind .table)) .octets) (from-source kind s (h .source) refl (h ∷ hs) ∙ ap (runOf kind s) f)
+    let a = from-source kind s (h .source) refl (h ∷ hs) in
+    ap₂ (λ (o : List ℕ) (t : Session). o ++ pouring (kind .table) t .octets) (a .octets) (a .session)
+    ∙ ap (λ (ks : List Heard). andThen (runOf kind s ks) (pouring (kind .table)) .octets) f
 
 pub others-are-not-heard : OthersAreNotHeard
 unfolding OthersAreNotHeard FirstSourceAlone
@@ -71,7 +84,7 @@ others-are-not-heard kind h hs e = first-source-alone kind h hs ∙ ap (λ (ks :
 
 -- ---- no packet, and the most
 pub no-packet-gives-opening : NoPacketGivesOpening
-unfolding NoPacketGivesOpening captureRecording entriesRecorded packetsIn upTo runOf andThen firstSession pouring pouredOf pourMade isOpen neverOpened vacant
+unfolding NoPacketGivesOpening captureRecording entriesRecorded wholeRun packetsIn upTo runOf andThen firstSession pouring pouredOf pourMade isOpen neverOpened vacant
 no-packet-gives-opening kind c e = rw e (append-nil (kind .opening))
 
 pub nothing-is-larger : NothingIsLarger
@@ -80,21 +93,24 @@ nothing-is-larger c g = largest-is captureKind table-fits table-erases c refl g
 
 -- ---- demand 3 through a capture
 -- a packet that is accepted, with nothing lost before it, is taken and no more
-taken-step : (kind : Kind) (s : Session) (h : Heard) → offeredTo (kind .table) s h .answer ≡ Accepted 0 → stepOf kind s h ≡ record { session = offeredTo (kind .table) s h .session; octets = [] }
+taken-step : (kind : Kind) (s : Session) (h : Heard) → offeredTo (kind .table) s h .answer ≡ Accepted 0 → Traceless (offeredTo (kind .table) s h .session) (stepOf kind s h)
 unfolding stepOf offering takenOf isTwelve
-taken-step kind s h e = rw e
+taken-step kind s h e = rw e (record { session = refl; octets = refl })
 
 all-taken : (kind : Kind) {form : Form} (g : Sent (voiceWith (kind .table)) form) (s : Session) (ns : List ℕ) → AllAccepted s g 0 ns →
-    runOf kind s (map (heardOf g) ns) ≡ record { session = offerAll s g ns; octets = [] }
+    Traceless (offerAll s g ns) (runOf kind s (map (heardOf g) ns))
 unfolding runOf andThen offerAll AllAccepted offeredTo
-all-taken kind g s [] x = refl
-all-taken kind g s (n ∷ ns) x = rw (taken-step kind s (heardOf g n) (x .0)) (all-taken kind g (offerOne s g n .session) ns (x .1))
+all-taken kind g s [] x = record { session = refl; octets = refl }
+all-taken kind g s (n ∷ ns) x =
+    let d = taken-step kind s (heardOf g n) (x .0) in
+    let i = all-taken kind g (offerOne s g n .session) ns (x .1) in
+    record { session = rw (d .session) (i .session); octets = rw (d .octets, d .session) (i .octets) }
 
 accepted-as : {v : Voice} {form : Form} (g : Sent v form) (s : Session) (m k : ℕ) (ns : List ℕ) → m ≡ k → AllAccepted s g m ns → AllAccepted s g k ns
 accepted-as g s m k ns e x = rw (← e) x
 
 pub group-is-recorded : GroupIsRecorded
-unfolding GroupIsRecorded FreshIsReady OffersDeliver captureForm formRight captureRecording entriesRecorded andThen firstSession pouring pouredOf fresh vacant
+unfolding GroupIsRecorded FreshIsReady OffersDeliver captureForm formRight captureRecording entriesRecorded wholeRun andThen firstSession pouring pouredOf fresh vacant
 group-is-recorded kind r g n ns h c e =
     let s = fresh holdingShape (g .group .source) captureForm in
     let d = offers-deliver (voiceWith (kind .table)) r captureForm g s (fresh-is-ready _ captureForm refl _ _) n ns h in
@@ -104,7 +120,7 @@ group-is-recorded kind r g n ns h c e =
     let y = all-taken kind g s (n ∷ ns) x in
     record {
       frames = inTime (voiceWith (kind .table)) (t .group);
-      behind-opening = rw (e, y, d .poured);
+      behind-opening = rw (e, y .octets, y .session, d .poured);
       places = d .places;
     }
 

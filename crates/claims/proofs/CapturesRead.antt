@@ -41,7 +41,7 @@ use Rattle.session.specs.declared.Offered.{Offered}
 use Rattle.session.proofs.Ends.{Placed, no, again, put, first, next, Ends, refuses, places, offer-ends}
 use Rattle.capture.specs.Capture.{Heard, packetsIn}
 use Rattle.capture.specs.Run.{Step, andThen, firstSession, offeredTo, takenOf, offering, pouredOf, pouring, isTwelve, stepOf, runOf}
-use Rattle.capture.specs.Run.{entriesRecorded, captureRecording}
+use Rattle.capture.specs.Run.{wholeRun, entriesRecorded, captureRecording}
 use Rattle.capture.proofs.Largest.{madeIf}
 use Rattle.claims.specs.Joinings.{HasRoom}
 use Rattle.claims.specs.Captures.{GivesARecording}
@@ -127,7 +127,7 @@ module _ (kind : Kind) (r : HasRoom (voiceWith (kind .table))) (u : T (single (k
   placed-good : (s : Session) (q t l n : ℕ) (fs : List Frame) → IsPacket (kind .table) l n fs → Fine (kind .table) s → (o : Offered) → Placed holdingShape s (arrival holdingShape q t l n fs) o
       → Good (kind .table) (takenOf kind s (o .session) (o .answer))
   unfolding takenOf refuse accept begins arrival withGroup
-  placed-good s q t l n fs i f o (no x e) = rw e (record { fine = f; entries = entries-none (kind .table) })
+  placed-good s q t l n fs i f o (no x k e) = rw e (record { fine = f; entries = entries-none (kind .table) })
   placed-good s q t l n fs i f o (again a e) = rw e (record { fine = f; entries = entries-none (kind .table) })
   placed-good s q t l n fs i f o (put a b c e) = rw e (record { fine = boxed (put-fine s q t l n fs i f a b c); entries = entries-none (kind .table) })
   placed-good s q t l n fs i f o (first a b e) = rw e (record { fine = boxed (begun-fine (s .source) n _ fs i refl); entries = entries-none (kind .table) })
@@ -140,7 +140,7 @@ module _ (kind : Kind) (r : HasRoom (voiceWith (kind .table))) (u : T (single (k
       (offer-ends (voiceWith (kind .table)) s (h .source) (h .sequence) (h .timestamp) (h .payload))
     where
       go : (o : Offered) → Ends (voiceWith (kind .table)) s (h .source) (h .sequence) (h .timestamp) (h .payload) o → Good (kind .table) (takenOf kind s (o .session) (o .answer))
-      go o (refuses x e) = rw e (record { fine = f; entries = entries-none (kind .table) })
+      go o (refuses x k e) = rw e (record { fine = f; entries = entries-none (kind .table) })
       go o (places op q l n d fs e x) = placed-good s (h .sequence) (h .timestamp) l n fs (read-is (kind .table) u (s .form) (h .payload) l n d fs e) f o x
 
   pour-good : (s : Session) → Fine (kind .table) s → Good (kind .table) (pouring (kind .table) s)
@@ -190,7 +190,7 @@ any-ok v [] = tt
 any-ok v (f ∷ fs) = (refl, any-ok v fs)
 
 pub gives-a-recording : GivesARecording
-unfolding GivesARecording captureRecording entriesRecorded recordingRead
+unfolding GivesARecording captureRecording entriesRecorded wholeRun recordingRead
 gives-a-recording kind r u h lists c =
     let hs = packetsIn c in
     let g =

@@ -7,7 +7,7 @@ use lib.Dec.{leb}
 use lib.ListN.{length, drop}
 use Rattle.octets.proofs.Logic.{apart}
 use Rattle.entries.specs.Kind.{Kind}
-use Rattle.answers.specs.Answers.{numberOf}
+use Rattle.answers.specs.Answers.{numberOf, placeOf}
 use Rattle.answers.specs.Outputs.{Made, octets, refusedOutput, writtenOf, outAfter}
 use Rattle.answers.specs.declared.Refusal.{Refusal}
 use Rattle.answers.specs.declared.Refusal.the-variants.{NoRoom}
@@ -30,18 +30,23 @@ use Rattle.session.specs.declared.Taken.the-variants as taken
 use Rattle.capture.specs.Capture.{good}
 use Rattle.capture.specs.Run.{recordAnswer, recordOutput, captureRecording}
 use Rattle.capture.specs.declared.Outcome.the-variants as outcome
+use Rattle.capture.specs.declared.Told.{Told}
+use Rattle.capture.specs.declared.Told.the-variants as told
 use Rattle.lending.specs.Calls.{layIf, layTaken, layWritten, openAnswer, openOctets, offerOctets, pourOctets, copyOctets}
 use Rattle.lending.specs.Calls.{endOctets, joinOctets, dropOctets}
-use Rattle.landing.specs.Host.{packetTold, packetAfter, placeTold, placeAfter, countTold, countAfter, writeTold, writtenAfter, withOutput}
+use Rattle.landing.specs.Host.{packetTold, packetAfter, frameTold, frameAfter, countTold, countAfter, writeTold, writtenAfter, withOutput}
 use Rattle.landing.specs.Host.{writeAfter, outcomeAfter, recordAfter, answerNumber, takenAfter, openNamed, openedNamed}
-use Rattle.landing.specs.Host.{holdingTold, holdingAfter, lostAfter}
+use Rattle.landing.specs.Host.{holdingTold, holdingAfter, lostAfter, toldAfter, toldPlace}
+use Rattle.landing.specs.Host.{contentsPlace, locatedPlace, countedPlace, writtenPlace, takenPlace, placeAfter}
 use Rattle.landing.specs.declared.Named.{Named}
 use Rattle.landing.specs.declared.Named.the-variants as named
 use Rattle.claims.specs.Calls.Lent.{LentLNBD, LentKindStartSize, LentCount, LentOutWritten, LentSession, LentSessionLost}
 use Rattle.claims.specs.Calls.Lent.{LentSessionOutWritten}
 use Rattle.claims.specs.Calls.Lent.{LentSourceSequenceTimestampLBHeld, LentLost}
+use Rattle.claims.specs.Call.{WithPlace}
 use Rattle.claims.specs.Demand1.{Numbered, done, refusal, NumberedOrBad, numbered, bad, Refuses, Demand1}
-use Rattle.claims.proofs.Seen.{out-lent, session-lent, holding-lent, answer-with, packet-seen, place-seen, count-seen, write-seen}
+use Rattle.claims.specs.Demand1.{NumberedAt, doneAt, refusalAt, NumberedAtOrBad, numberedAt, badAt, RefusesAt}
+use Rattle.claims.proofs.Seen.{out-lent, session-lent, holding-lent, answer-with, packet-seen, frame-seen, count-seen, write-seen}
 use Rattle.claims.proofs.Seen.{offer-seen}
 use Rattle.claims.proofs.Seen.{holding-seen, lost-seen}
 
@@ -52,23 +57,34 @@ did e = record { number = done (ap (λ w. w .0) e); kept = λ h. absurd (h (ap (
 refused-by : {X : Type 0} (r : Refusal) {x : ℕ} {before after : X} → _≡_ {A = ℕ × X} (x, after) (numberOf r, before) → Refuses Numbered x before after
 refused-by r e = record { number = refusal r (ap (λ w. w .0) e); kept = λ h. ap (λ w. w .1) e }
 
+-- ---- the same of a call that tells the place
+did-at : {X : Type 0} {x : ℕ} {b a : WithPlace X} {made : X} → _≡_ {A = ℕ × X} (x, a .rest) (0, made) → a .place ≡ b .place → RefusesAt NumberedAt x b a
+did-at e q = record { number = doneAt (ap (λ w. w .0) e) q; kept = λ h. absurd (h (ap (λ w. w .0) e)) }
+
+refused-at : {X : Type 0} (r : Refusal) {x : ℕ} {b a : WithPlace X} → _≡_ {A = ℕ × X} (x, a .rest) (numberOf r, b .rest) →
+    a .place ≡ placeAfter (placeOf r) (b .place) → RefusesAt NumberedAt x b a
+refused-at r e q = record { number = refusalAt r (ap (λ w. w .0) e) q; kept = λ h. ap (λ w. w .1) e }
+
 -- ---- what a host is told of a payload, of a frame, and of a count
-packet-refuses : (c : Contents) {x : ℕ} {b a : LentLNBD} →
-    packetTold x (a .l) (a .n) (a .b) (a .d) ≡ packetAfter c (b .l) (b .n) (b .b) (b .d) → Refuses Numbered x b a
-unfolding packetAfter
-packet-refuses (contents.Packet l n b d) p = did (ap packet-seen p)
-packet-refuses (contents.Refused r) p = refused-by r (ap packet-seen p)
+packet-refuses : (c : Contents) {x : ℕ} {b a : WithPlace LentLNBD} →
+    (packetTold x (a .rest .l) (a .rest .n) (a .rest .b) (a .rest .d) ≡ packetAfter c (b .rest .l) (b .rest .n) (b .rest .b) (b .rest .d))
+    × (a .place ≡ placeAfter (contentsPlace c) (b .place)) → RefusesAt NumberedAt x b a
+unfolding packetAfter contentsPlace placeAfter
+packet-refuses (contents.Packet l n b d) p = did-at (ap packet-seen (p .0)) (p .1)
+packet-refuses (contents.Refused r) p = refused-at r (ap packet-seen (p .0)) (p .1)
 
-place-refuses : (c : Located) {x : ℕ} {b a : LentKindStartSize} →
-    placeTold x (a .kind) (a .start) (a .size) ≡ placeAfter c (b .kind) (b .start) (b .size) → Refuses Numbered x b a
-unfolding placeAfter
-place-refuses (located.At t s z) p = did (ap place-seen p)
-place-refuses (located.Refused r) p = refused-by r (ap place-seen p)
+frame-refuses : (c : Located) {x : ℕ} {b a : WithPlace LentKindStartSize} →
+    (frameTold x (a .rest .kind) (a .rest .start) (a .rest .size) ≡ frameAfter c (b .rest .kind) (b .rest .start) (b .rest .size))
+    × (a .place ≡ placeAfter (locatedPlace c) (b .place)) → RefusesAt NumberedAt x b a
+unfolding frameAfter locatedPlace placeAfter
+frame-refuses (located.At t s z) p = did-at (ap frame-seen (p .0)) (p .1)
+frame-refuses (located.Refused r) p = refused-at r (ap frame-seen (p .0)) (p .1)
 
-count-refuses : (c : Counted) {x : ℕ} {b a : LentCount} → countTold x (a .count) ≡ countAfter c (b .count) → Refuses Numbered x b a
-unfolding countAfter
-count-refuses (counted.Frames n) p = did (ap count-seen p)
-count-refuses (counted.Refused r) p = refused-by r (ap count-seen p)
+count-refuses : (c : Counted) {x : ℕ} {b a : WithPlace LentCount} →
+    (countTold x (a .rest .count) ≡ countAfter c (b .rest .count)) × (a .place ≡ placeAfter (countedPlace c) (b .place)) → RefusesAt NumberedAt x b a
+unfolding countAfter countedPlace placeAfter
+count-refuses (counted.Frames n) p = did-at (ap count-seen (p .0)) (p .1)
+count-refuses (counted.Refused r) p = refused-at r (ap count-seen (p .0)) (p .1)
 
 -- ---- of a call that writes: an answer, with the output that goes with it
 written-refuses : (w : Written) {x : ℕ} {b a : LentOutWritten} (out : List ℕ) → ((r : Refusal) → w ≡ written.Refused r → out ≡ b .out) →
@@ -92,6 +108,19 @@ write-refuses : (made : Made) {x : ℕ} {b a : LentOutWritten} → writeTold x (
 unfolding writeAfter
 write-refuses made {b = b} p = written-refuses (writtenOf made (b .out)) (outAfter made (b .out)) (kept-output made (b .out)) p
 
+-- and of one that is given entries
+write-refuses-at : (made : Made) {x : ℕ} {b a : WithPlace LentOutWritten} →
+    (writeTold x (a .rest .written) (a .rest .out) ≡ writeAfter made (b .rest .written) (b .rest .out))
+    × (a .place ≡ placeAfter (writtenPlace (writtenOf made (b .rest .out))) (b .place)) → RefusesAt NumberedAt x b a
+unfolding writeAfter writtenAfter writtenPlace placeAfter
+write-refuses-at made {x = x} {b = b} {a = a} p =
+    record { number = go (writtenOf made (b .rest .out)) (p .0) (p .1); kept = write-refuses made (p .0) .kept }
+  where
+    go : (w : Written) → writeTold x (a .rest .written) (a .rest .out) ≡ withOutput (writtenAfter w (b .rest .written)) (outAfter made (b .rest .out)) →
+        a .place ≡ placeAfter (writtenPlace w) (b .place) → NumberedAt x (b .place) (a .place)
+    go (written.Octets m) e q = doneAt (ap (λ t. write-seen t .0) e) q
+    go (written.Refused r) e q = refusalAt r (ap (λ t. write-seen t .0) e) q
+
 -- ---- of a capture, which may be bad
 capture-refuses : (good : Bool) (made : Made) {x : ℕ} {b a : LentOutWritten} →
     writeTold x (a .written) (a .out) ≡ withOutput
@@ -109,6 +138,19 @@ record-refuses : (kind : Kind) (c : List ℕ) {x : ℕ} {b a : LentOutWritten} �
 unfolding recordAfter recordAnswer recordOutput
 record-refuses kind c p = capture-refuses (good c) (octets (captureRecording kind c)) p
 
+-- and of a packet of one
+lost-told-refuses : (y : Taken) {x : ℕ} {b a : WithPlace LentLost} →
+    (countTold x (a .rest .lost) ≡ takenAfter y (b .rest .lost)) × (a .place ≡ placeAfter (takenPlace y) (b .place)) → RefusesAt NumberedAt x b a
+unfolding takenAfter takenPlace placeAfter
+lost-told-refuses (taken.Accepted m) p = did-at (ap lost-seen (p .0)) (p .1)
+lost-told-refuses (taken.Refused r) p = refused-at r (ap lost-seen (p .0)) (p .1)
+
+answer-of-refuses : (w : Told) {x : ℕ} {b a : WithPlace LentLost} →
+    (countTold x (a .rest .lost) ≡ toldAfter w (b .rest .lost)) × (a .place ≡ placeAfter (toldPlace w) (b .place)) → RefusesAt NumberedAtOrBad x b a
+unfolding toldAfter toldPlace placeAfter
+answer-of-refuses told.BadCapture p = record { number = badAt (ap (λ t. lost-seen t .0) (p .0)) (p .1); kept = λ h. ap (λ t. lost-seen t .1) (p .0) }
+answer-of-refuses (told.Answered y) p = let i = lost-told-refuses y p in record { number = numberedAt (i .number); kept = i .kept }
+
 -- ---- of sessions and holdings in lent octets
 answer-refuses : {X : Type 0} (lent : List ℕ → X) (y : Answer) {x : ℕ} (b a w : List ℕ) → (x ≡ answerNumber y) × (a ≡ layIf y b w) →
     Refuses Numbered x (lent b) (lent a)
@@ -122,11 +164,12 @@ unfolding openNamed openedNamed openOctets layIf
 open-refuses (named.Agreed f) source {b = b} p = answer-refuses session-lent (openAnswer (b .session) source f) _ _ _ p
 open-refuses (named.Refused r) source p = answer-refuses session-lent (answer.Refused r) _ _ [] p
 
-offer-refuses : (y : Taken) {x : ℕ} {b a : LentSessionLost} (w : List ℕ) →
-    (countTold x (a .lost) ≡ takenAfter y (b .lost)) × (a .session ≡ layTaken y (b .session) w) → Refuses Numbered x b a
-unfolding takenAfter layTaken
-offer-refuses (taken.Accepted m) w p = did (ap₂ offer-seen (p .0) (p .1))
-offer-refuses (taken.Refused r) w p = refused-by r (ap₂ offer-seen (p .0) (p .1))
+offer-refuses : (y : Taken) {x : ℕ} {b a : WithPlace LentSessionLost} (w : List ℕ) →
+    (countTold x (a .rest .lost) ≡ takenAfter y (b .rest .lost)) × (a .place ≡ placeAfter (takenPlace y) (b .place))
+    × (a .rest .session ≡ layTaken y (b .rest .session) w) → RefusesAt NumberedAt x b a
+unfolding takenAfter takenPlace placeAfter layTaken
+offer-refuses (taken.Accepted m) w p = did-at (ap₂ offer-seen (p .0) (p .2)) (p .1)
+offer-refuses (taken.Refused r) w p = refused-at r (ap₂ offer-seen (p .0) (p .2)) (p .1)
 
 -- a refused pouring leaves the session
 kept-session : (y : Written) {x n : ℕ} {out : List ℕ} (n₀ : ℕ) (o b a w : List ℕ) → writeTold x n out ≡ withOutput (writtenAfter y n₀) o →
@@ -166,13 +209,14 @@ pub demand-1 : Demand1
 unfolding offerOctets pourOctets copyOctets endOctets joinOctets dropOctets
 demand-1 = record {
   lvPayloadRead = record { so = packet-refuses _ };
-  lvPayloadFrame = record { so = place-refuses _ };
+  lvPayloadFrame = record { so = frame-refuses _ };
   lvRecordingRead = record { so = count-refuses _ };
-  lvRecordingFrame = record { so = place-refuses _ };
-  lvRecordingWrite = record { so = write-refuses _ };
-  lvPacketWrite = record { so = write-refuses _ };
-  lvPacketWriteHeaderFree = record { so = write-refuses _ };
+  lvRecordingFrame = record { so = frame-refuses _ };
+  lvRecordingWrite = record { so = write-refuses-at _ };
+  lvPacketWrite = record { so = write-refuses-at _ };
+  lvPacketWriteHeaderFree = record { so = write-refuses-at _ };
   lvCaptureRecord = record { so = record-refuses _ _ };
+  lvCaptureAnswer = record { so = answer-of-refuses _ };
   lvSessionOpen = record { so = open-refuses _ _ };
   lvSessionOffer = record { so = offer-refuses _ _ };
   lvSessionPour = record { so = pour-refuses _ _ };

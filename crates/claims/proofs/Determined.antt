@@ -10,8 +10,8 @@ use Rattle.session.specs.Session.{afterPour}
 use Rattle.lending.specs.Calls.{pourOctets}
 use Rattle.claims.specs.Determined.{Determined}
 use Rattle.claims.proofs.Seen.{dst-lent, out-lent, session-lent, holding-lent, alone, reference, only, answer-with, poured}
-use Rattle.claims.proofs.Seen.{lent-poured, packet-seen, place-seen, count-seen, write-seen, offer-seen, pour-seen}
-use Rattle.claims.proofs.Seen.{holding-seen, lost-seen}
+use Rattle.claims.proofs.Seen.{lent-poured, packet-seen, frame-seen, count-seen, write-seen, pour-seen}
+use Rattle.claims.proofs.Seen.{holding-seen, lost-seen, at-place, offer-seen-at}
 
 -- ---- one equation fixes all that is seen of it; and two do
 by : {A B : Type 0} (seen : A → B) {x y m : A} → x ≡ m → y ≡ m → seen x ≡ seen y
@@ -19,6 +19,10 @@ by seen p q = ap seen (p ∙ sym q)
 
 by-both : {A B C : Type 0} (seen : A → B → C) {x y m : A} {s t n : B} → (x ≡ m) × (s ≡ n) → (y ≡ m) × (t ≡ n) → seen x s ≡ seen y t
 by-both seen p q = ap₂ seen (p .0 ∙ sym (q .0)) (p .1 ∙ sym (q .1))
+
+by-three : {A B C D : Type 0} (seen : A → B → C → D) {x y m : A} {s t n : B} {u w o : C} → (x ≡ m) × (s ≡ n) × (u ≡ o) →
+    (y ≡ m) × (t ≡ n) × (w ≡ o) → seen x s u ≡ seen y t w
+by-three seen p q = rw (p .0, p .1, p .2, q .0, q .1, q .2)
 
 -- ---- the very part of the caller's octets
 lies : {octets : RefT (List ℕ)} {start : ℕ} {content : List ℕ} {x y : RefT (List ℕ)} →
@@ -110,16 +114,16 @@ determined = record {
   lendingEnd = record { equal = by-both (answer-with session-lent) };
   lendingJoin = record { equal = by-both (answer-with out-lent) };
   lendingPourHolding = record { equal = writes };
-  lvPayloadRead = record { equal = by packet-seen };
-  lvPayloadFrame = record { equal = by place-seen };
-  lvRecordingRead = record { equal = by count-seen };
-  lvRecordingFrame = record { equal = by place-seen };
-  lvRecordingWrite = record { equal = by write-seen };
-  lvPacketWrite = record { equal = by write-seen };
-  lvPacketWriteHeaderFree = record { equal = by write-seen };
+  lvPayloadRead = record { equal = by-both (at-place packet-seen) };
+  lvPayloadFrame = record { equal = by-both (at-place frame-seen) };
+  lvRecordingRead = record { equal = by-both (at-place count-seen) };
+  lvRecordingFrame = record { equal = by-both (at-place frame-seen) };
+  lvRecordingWrite = record { equal = by-both (at-place write-seen) };
+  lvPacketWrite = record { equal = by-both (at-place write-seen) };
+  lvPacketWriteHeaderFree = record { equal = by-both (at-place write-seen) };
   lvCaptureRecord = record { equal = by write-seen };
   lvSessionOpen = record { equal = by-both (answer-with session-lent) };
-  lvSessionOffer = record { equal = by-both offer-seen };
+  lvSessionOffer = record { equal = by-three offer-seen-at };
   lvSessionPour = record { equal = by-both pour-seen };
   lvSessionCopy = record { equal = by-both (answer-with holding-lent) };
   lvSessionEnd = record { equal = by-both (answer-with session-lent) };
@@ -137,4 +141,7 @@ determined = record {
   lvSessionDrop = record { equal = by-both (answer-with session-lent) };
   lvHoldingRead = record { equal = by holding-seen };
   lvHoldingLost = record { equal = by lost-seen };
+  refusalPlace = record { equal = by alone };
+  captureAnswer = record { equal = by alone };
+  lvCaptureAnswer = record { equal = by-both (at-place lost-seen) };
 }

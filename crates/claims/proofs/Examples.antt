@@ -1,7 +1,7 @@
 -- The marked examples hold, by computation. Assumes nothing.
 use Prim.Native.Nat.{ℕ}
 use mathlib.Core.Path.{_≡_, refl, ap, _∙_}
-use mathlib.Core.List.{List}
+use mathlib.Core.List.{List, [], _∷_, map}
 use Rattle.frame.specs.Shape.{Voice}
 use Rattle.answers.specs.Answers.{numberOf}
 use Rattle.answers.specs.declared.Refusal.{Refusal}
@@ -10,7 +10,9 @@ use Rattle.session.specs.declared.Session.{Session}
 use Rattle.session.specs.declared.Offered.{Offered}
 use Rattle.frame.specs.FrameTable.{rowsOf, rowOf, rowWith, Frame}
 use Rattle.frame.specs.Places.{locatedOf, bodyOf, upTo}
-use Rattle.payload.specs.Payload.{packet, toc, bodies, interleaved, oneBody, readAs}
+use Rattle.payload.specs.Payload.{packet, toc, firstCut, bodies, interleaved, oneBody, readAs}
+use Rattle.entries.specs.Entries.{entries, allowed}
+use Rattle.recording.specs.Recording.{opensWith, recordingRead}
 use Rattle.payload.specs.Shown.{givenOf, givenAs}
 use Rattle.numbers.specs.Place.{differ, atDistance, withHeld, afterGap, afterPoured, decided}
 use Rattle.octets.specs.Octets.{twoAt, fourAt, over, anySet, sameOctets, allZero, allBelow, region}
@@ -22,9 +24,9 @@ use Rattle.pouring.specs.Pouring.{row, rows, poured}
 use Rattle.session.specs.Session.{vacant, fresh, formRight, lastRight, groupRight, isOpen, refuse, accept, withGroup, lastNumbers}
 use Rattle.session.specs.Session.{groupBefore, begins, belongs, placedBy, placed, arrival, judged, received, offered, pourMade, ended}
 use Rattle.capture.specs.Capture.{endFault, tableFault, countFault, faultOf, good, startAt, lengths, heardAt, packetsIn}
-use Rattle.capture.specs.Run.{captureForm, firstSession, offeredTo, takenOf, offering, pouredOf, pouring, isTwelve, stepOf, runOf}
-use Rattle.capture.specs.Run.{entriesRecorded, captureRecording, andThen}
-use Rattle.claims.specs.Examples.{MarkedExamples, HoldsP15, RefusedBy, NewBase, P15, WholeCase}
+use Rattle.capture.specs.Run.{captureKind, captureForm, firstSession, offeredTo, takenOf, offering, pouredOf, pouring, isTwelve, stepOf, runOf}
+use Rattle.capture.specs.Run.{wholeRun, entriesRecorded, captureRecording, andThen, packetAnswered, answerOf}
+use Rattle.claims.specs.Examples.{fourPackets, fourAnswers, MarkedExamples, HoldsP15, RefusedBy, NewBase, P15, WholeCase}
 use Rattle.claims.proofs.Offering.{offer-read}
 
 -- a packet whose numbers are refused, offered to such a session
@@ -53,9 +55,30 @@ unfolding rowsOf rowOf toc bodies interleaved readAs differ atDistance withHeld 
     rooms frameOf row rows poured vacant fresh formRight lastRight groupRight isOpen refuse accept withGroup
     lastNumbers groupBefore begins belongs placedBy placed arrival judged received offered pourMade ended endFault
     tableFault countFault faultOf good startAt lengths heardAt packetsIn captureForm firstSession offeredTo takenOf
-    offering pouredOf pouring isTwelve stepOf runOf entriesRecorded captureRecording andThen
+    offering pouredOf pouring isTwelve stepOf runOf wholeRun entriesRecorded captureRecording andThen
 whole-case = record { heard = record { whole = refl; recording = refl }; lost = record { whole = refl; recording = refl } }
 
+-- the packets of a capture are told apart: one is held, one is refused with its place, one is another's, one is held when it is offered
+-- again, and one is not there
+four-answers : map (answerOf captureKind fourPackets) (0 ∷ 1 ∷ 2 ∷ 3 ∷ 4 ∷ []) ≡ fourAnswers
+unfolding rowsOf rowOf toc firstCut bodies interleaved readAs differ atDistance withHeld afterGap afterPoured decided twoAt fourAt over
+    anySet sameOctets allZero upTo nothing begun numbersOf isNothing bare withPacket sameBundles notHeld markAt
+    mayStand frameRight framesRight heldAt bundleOf packetRight rightIn sound holds allBelow region laid filled
+    rooms frameOf row rows poured vacant fresh formRight lastRight groupRight isOpen refuse accept withGroup
+    lastNumbers groupBefore begins belongs placedBy placed arrival judged received offered pourMade ended endFault
+    tableFault countFault faultOf good startAt lengths heardAt packetsIn captureForm firstSession offeredTo takenOf
+    offering pouredOf pouring isTwelve stepOf runOf wholeRun andThen packetAnswered answerOf
+four-answers = refl
+
 pub marked-examples : MarkedExamples
-unfolding rowsOf rowOf rowWith locatedOf bodyOf toc bodies interleaved oneBody readAs givenOf givenAs
-marked-examples = record { asSaid = refl; anyRate1 = λ p h. rw h; bases = (refl, refl); distances = p15; captures = whole-case }
+unfolding sameOctets rowsOf rowOf rowWith locatedOf bodyOf entries allowed opensWith recordingRead toc firstCut bodies interleaved oneBody
+    readAs givenOf givenAs
+marked-examples = record {
+  asSaid = refl;
+  places = refl;
+  answers = four-answers;
+  anyRate1 = λ p h. rw h;
+  bases = (refl, refl);
+  distances = p15;
+  captures = whole-case;
+}

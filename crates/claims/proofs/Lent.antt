@@ -15,8 +15,8 @@ use Rattle.holding.specs.Group.{Shaped, begun, nothing}
 use Rattle.holding.proofs.GroupLaws.{nothing-held}
 use Rattle.holding.specs.declared.Holding.{Holding}
 use Rattle.pouring.specs.Pouring.{poured}
-use Rattle.session.specs.Session.{vacant, neverOpened, formRight, lastRight, groupRight, isOpen, refuse, accept, offered}
-use Rattle.session.proofs.Ends.{Ends, refuses, places, offer-ends}
+use Rattle.session.specs.Session.{vacant, neverOpened, isOpen, refuse, accept, offered}
+use Rattle.session.proofs.Ends.{open-has, Ends, refuses, places, offer-ends}
 use Rattle.session.specs.declared.Session.{Session}
 use Rattle.session.specs.declared.Offered.{Offered}
 use Rattle.session.specs.declared.Taken.{Taken}
@@ -141,16 +141,12 @@ over-same o h =
 
 -- what is accepted was offered to an open session
 accepted-open : (v : Voice) (s : Session) (source q t : ℕ) (p : List ℕ) (lost : ℕ) → offered v s source q t p .answer ≡ taken.Accepted lost → s .«open» ≡ true
-unfolding isOpen refuse
+unfolding refuse
 accepted-open v s source q t p lost e = go (offered v s source q t p) (offer-ends v s source q t p) e
   where
-    first : (a b : Bool) → (a && b) ≡ true → a ≡ true
-    first true b x = refl
-    first false b x = apart (cc)
-
     go : (o : Offered) → Ends v s source q t p o → o .answer ≡ taken.Accepted lost → s .«open» ≡ true
-    go o (refuses r x) y = let z : taken.Refused r ≡ taken.Accepted lost = ap (λ (w : Offered). w .answer) (sym x) ∙ y in apart (cc)
-    go o (places x _ l n d fs _ _) y = first (s .«open») (formRight (s .form) && (lastRight (v .shape) s && groupRight v s)) x
+    go o (refuses r n x) y = let z : taken.Refused r ≡ taken.Accepted lost = ap (λ (w : Offered). w .answer) (sym x) ∙ y in apart (cc)
+    go o (places x _ l n d fs _ _) y = open-has v s x .opened
 
 kept-octets : (v : Voice) (o : List ℕ) (source q t : ℕ) (p : List ℕ) → offered v (sessionIn o) source q t p .session ≡ sessionIn o → offerOctets v o source q t p ≡ o
 unfolding SessionLaysBack offerOctets offerAnswer layTaken isSession

@@ -16,6 +16,7 @@ pub mod Boxes
 pub mod TwoBoxes
 pub mod Captures
 pub mod CapturesRead
+pub mod CapturesAnswered
 pub mod Marks
 pub mod LentBack
 pub mod Demand3
@@ -24,7 +25,7 @@ pub mod Opened
 pub mod Lent
 pub mod LentJoinings
 pub mod Examples
-pub mod Faults
+pub mod Places
 pub mod Idle
 pub mod Determined
 pub mod Main

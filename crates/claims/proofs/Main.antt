@@ -30,8 +30,11 @@ use Rattle.claims.proofs.Boxes.{boxes-join}
 use Rattle.claims.proofs.Captures.{group-is-recorded, first-source-alone, others-are-not-heard, no-packet-gives-opening}
 use Rattle.claims.proofs.Captures.{nothing-is-larger, capture-exactly-if}
 use Rattle.claims.proofs.CapturesRead.{gives-a-recording}
+use Rattle.claims.proofs.CapturesAnswered.{each-packet-answered, answered-by-its-step, recorded-by-its-answers, twelve-is-never-told}
+use Rattle.claims.proofs.CapturesAnswered.{no-packet-answers-21, bad-capture-is-told}
 use Rattle.claims.proofs.Examples.{marked-examples}
-use Rattle.claims.proofs.Faults.{faults-have-places}
+use Rattle.claims.proofs.Places.{place-inside, table-is-cut, type-is-reserved, entry-is-past-maximum, bodies-are-cut, octets-are-left}
+use Rattle.claims.proofs.Places.{recording-faults, entries-faults}
 use Rattle.claims.proofs.Idle.{refuses-everything, pours-erasures, stores-nothing, nods-at-later, invents-lost-frames}
 use Rattle.claims.proofs.Idle.{invents-octet-counts}
 use Rattle.claims.proofs.Determined.{determined}
@@ -123,5 +126,18 @@ promised = record {
   nods-at-later = nods-at-later;
   invents-lost-frames = invents-lost-frames;
   invents-octet-counts = invents-octet-counts;
-  faults-have-places = faults-have-places;
+  place-inside = place-inside;
+  table-is-cut = table-is-cut;
+  type-is-reserved = type-is-reserved;
+  entry-is-past-maximum = entry-is-past-maximum;
+  bodies-are-cut = bodies-are-cut;
+  octets-are-left = octets-are-left;
+  recording-faults = recording-faults;
+  entries-faults = entries-faults;
+  each-packet-answered = each-packet-answered;
+  answered-by-its-step = answered-by-its-step;
+  recorded-by-its-answers = recorded-by-its-answers;
+  twelve-is-never-told = twelve-is-never-told;
+  no-packet-answers-21 = no-packet-answers-21;
+  bad-capture-is-told = bad-capture-is-told;
 }

@@ -2,12 +2,11 @@
 use Prim.Native.Nat.{ℕ, _+_, _-_, _*_, _%_, _≤_, _<_}
 use mathlib.Core.Path.{_≡_, refl, sym, ap, ap₂, subst, _∙_}
 use mathlib.Core.List.{List, [], _∷_}
-use mathlib.Core.Bool.{Bool, true, false, cond, _&&_, _||_}
+use mathlib.Core.Bool.{Bool, true, false, cond, _||_}
 use native.Mathlib.Omega.{arith}
 use lib.Dec.{eqb}
 use lib.ListN.{length}
 use borrow.Author.Tests.{eq-eqb, eqb-true, eqb-false}
-use Rattle.octets.proofs.Logic.{both-true}
 use Rattle.frame.specs.FrameTable.{Frame, AllListed, Listed}
 use Rattle.frame.specs.Shape.{Voice, packetsOf}
 use Rattle.frame.specs.Places.{frameAt}
@@ -31,7 +30,8 @@ use Rattle.knowledge.proofs.JoinLaws.{box-sound}
 use Rattle.knowledge.proofs.KnowledgeLaws.{known-held, cellFor, cell-known}
 use Rattle.knowledge.proofs.PacketLaws.{packets-refl}
 use Rattle.knowledge.proofs.PutLaws.{Keeps, with-head, put-box, put-knows, put-others, begun-keeps, begun-lost}
-use Rattle.session.specs.Session.{fresh, vacant, formRight, lastRight, groupRight, isOpen, accept, refuse, withGroup, pourMade, copied, groupBefore}
+use Rattle.session.proofs.Ends.{open-has}
+use Rattle.session.specs.Session.{fresh, vacant, lastRight, groupRight, isOpen, accept, refuse, withGroup, pourMade, copied, groupBefore}
 use Rattle.session.specs.Session.{begins, belongs, placedBy, placed, arrival, judged, received, offered}
 use Rattle.session.specs.declared.Session.{Session}
 use Rattle.session.specs.declared.Offered.{Offered}
@@ -88,10 +88,8 @@ some-held v h x = sound-something v h (box-sound v h x)
 open-with : (v : Voice) (s : Session) (h : Holding) → isOpen v s ≡ true → Box v h → h .source ≡ s .source → isOpen v (withGroup s h) ≡ true
 unfolding isOpen withGroup groupRight lastRight
 open-with v s h o x e =
-    let p = both-true (s .«open») (formRight (s .form) && (lastRight (v .shape) s && groupRight v s)) o in
-    let q = both-true (formRight (s .form)) (lastRight (v .shape) s && groupRight v s) (p .1) in
-    let r = both-true (lastRight (v .shape) s) (groupRight v s) (q .1) in
-    simp (p .0, q .0, r .0, some-held v h x, x .some, eq-eqb (h .source) (s .source) e)
+    let p = open-has v s o in
+    simp (p .opened, p .form, p .last, some-held v h x, x .some, eq-eqb (h .source) (s .source) e)
 
 -- the packets offered, named in another order
 exactly-as : {v : Voice} {form : Form} (s : Session) (g : Sent v form) (ds es : List ℕ) → ((i : ℕ) → among i ds ≡ among i es) → HoldsExactly s g ds → HoldsExactly s g es

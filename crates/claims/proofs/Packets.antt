@@ -151,7 +151,7 @@ made-of kind m l n b d es w e =
     go g h q s p t (frames fs) x y =
         let z = passed (eqb (length fs) ((l + 1) * b)) (octets (packed l n d (packetFrames l n b fs))) _ w y in
         let c = eqb-true (length fs) ((l + 1) * b) (z .0) in
-        let f : groupIn kind es ≡ fs = ap framesIn (read-any kind rule.Sendable es fs x) in
+        let f : groupIn kind es ≡ fs = ap framesIn (read-any kind rule.Sendable 0 es fs x) in
         let o = length-packet l n b fs in
         record {
           writable = λ narrows. rw f (record {

@@ -221,7 +221,7 @@ header-free-read-after-write kind h es w e = go (entriesIn kind rule.HeaderFree 
         let t = told (kind .table) (kind .table) (f .type) (s .r) h (s .row) (s .sent) (omega (arith, a .0, s .long)) in
         let n : length w ≡ s .r .octets = ap length (sym b) ∙ s .long in
         let z : length w ≡ 0 → ⊥ = λ y. absurd (omega (arith, a .0, s .long)) in
-        let g : groupIn kind es ≡ f ∷ [] = ap framesIn (read-any kind rule.HeaderFree es (f ∷ []) q) in
+        let g : groupIn kind es ≡ f ∷ [] = ap framesIn (read-any kind rule.HeaderFree 0 es (f ∷ []) q) in
         let row : rowOfSize (kind .table) (length w) ≡ Found (t .r) = rw (ne-eqb (length w) 0 z) (ap (rowWith (kind .table)) n ∙ t .row) in
         rw (row, g) (ap₂ (λ (c : ℕ) (y : List ℕ). packet 0 0 0 (record { type = c; body = y } ∷ [])) (t .kind) (sym b))
 

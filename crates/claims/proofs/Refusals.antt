@@ -31,14 +31,14 @@ use Rattle.capture.specs.declared.Outcome as captured
 use Rattle.capture.specs.declared.Outcome.the-variants as outcome
 use Rattle.lending.specs.Laid.{sessionIn, sessionLaid, sessionVoice}
 use Rattle.lending.specs.Calls.{layIf, layTaken, layWritten, openOctets, offerAnswer, offerOctets, pourOctets, copyOctets, dropOctets, endOctets, joinOctets}
-use Rattle.landing.specs.Host.{takenAfter}
-use Rattle.claims.specs.Call.{Outcome}
+use Rattle.landing.specs.Host.{takenAfter, takenPlace, placeAfter}
+use Rattle.claims.specs.Call.{Outcome, WithPlace}
 use Rattle.claims.specs.Calls.Lent.{LentSessionLost}
 use Rattle.claims.specs.Sessions.{RefusedOfferChangesNothing, AnotherSourceIs10, AnotherSourcesWordsAreNotHeard}
 use Rattle.claims.specs.Refusals.{RefusalsAreNumbered, RefusedAnswer, RefusedOffer, RefusedWriting, RefusedCapture, RattleDemand1, AnotherSource}
 use Rattle.claims.proofs.Sessions.{refused-offer-changes-nothing, another-source-is-10, another-sources-words-are-not-heard}
 use Rattle.claims.proofs.Demand1.{kept-output}
-use Rattle.claims.proofs.Seen.{out-lent, session-lent, offer-seen}
+use Rattle.claims.proofs.Seen.{out-lent, session-lent, offer-same}
 use Rattle.claims.proofs.Builds.{offer-told, host-offer-told}
 
 pub refusals-are-numbered : RefusalsAreNumbered
@@ -46,11 +46,12 @@ unfolding RefusalsAreNumbered
 refusals-are-numbered refusal.NoOctet = (omega arith, omega arith)
 refusals-are-numbered refusal.IndexPastLength = (omega arith, omega arith)
 refusals-are-numbered refusal.LengthPastMaximum = (omega arith, omega arith)
-refusals-are-numbered refusal.TableCut = (omega arith, omega arith)
-refusals-are-numbered refusal.ReservedType = (omega arith, omega arith)
-refusals-are-numbered refusal.TooManyFrames = (omega arith, omega arith)
-refusals-are-numbered refusal.BodiesCut = (omega arith, omega arith)
-refusals-are-numbered refusal.OctetsLeft = (omega arith, omega arith)
+refusals-are-numbered (refusal.TableCut at) = (omega arith, omega arith)
+refusals-are-numbered (refusal.ReservedType at) = (omega arith, omega arith)
+refusals-are-numbered (refusal.TooManyFrames at) = (omega arith, omega arith)
+refusals-are-numbered refusal.BundleOutOfRange = (omega arith, omega arith)
+refusals-are-numbered (refusal.BodiesCut at) = (omega arith, omega arith)
+refusals-are-numbered (refusal.OctetsLeft at) = (omega arith, omega arith)
 refusals-are-numbered refusal.HeaderFreeLength = (omega arith, omega arith)
 refusals-are-numbered refusal.AnotherSource = (omega arith, omega arith)
 refusals-are-numbered refusal.ContradictsGroup = (omega arith, omega arith)
@@ -61,7 +62,7 @@ refusals-are-numbered refusal.NoRoom = (omega arith, omega arith)
 refusals-are-numbered refusal.TooFarAhead = (omega arith, omega arith)
 refusals-are-numbered refusal.NotSendable = (omega arith, omega arith)
 refusals-are-numbered refusal.WrongOpening = (omega arith, omega arith)
-refusals-are-numbered refusal.BodyCut = (omega arith, omega arith)
+refusals-are-numbered (refusal.BodyCut at) = (omega arith, omega arith)
 refusals-are-numbered refusal.NotSameGroup = (omega arith, omega arith)
 refusals-are-numbered refusal.NotApplicable = (omega arith, omega arith)
 
@@ -190,21 +191,29 @@ rattle-demand-1 = record {
 
 -- ---- another source
 pub another-source : AnotherSource
-unfolding AnotherSourceIs10 AnotherSourcesWordsAreNotHeard offerAnswer offerOctets layTaken takenAfter refuse
+unfolding AnotherSourceIs10 AnotherSourcesWordsAreNotHeard offerAnswer offerOctets layTaken takenAfter takenPlace placeAfter refuse
 another-source = record {
   is-10 = λ s source q t p x d o c. offer-told c ∙ another-source-is-10 (voiceFor (s .form)) s o source q t d p;
   unread = λ s source q t p p′ x y d c c′.
       offer-told c ∙ another-sources-words-are-not-heard (voiceFor (s .form)) s source q t d p p′ ∙ sym (offer-told c′);
-  host-is-10 = λ o after source q t p x d i c. seen-so (ap₂ offer-seen
-      (host-offer-told c .0 ∙ ap (λ (y : Offered). takenAfter (y .answer) (o .lost)) (another-source-is-10 (sessionVoice (o .session)) (sessionIn (o .session)) i source q t d p))
-      (host-offer-told c .1 ∙ ap (λ (y : Offered). layTaken (y .answer) (o .session) (sessionLaid (y .session)))
-      (another-source-is-10 (sessionVoice (o .session)) (sessionIn (o .session)) i source q t d p)));
+  host-is-10 = λ o after source q t p x d i c.
+      let s = o .rest .session in
+      let is = another-source-is-10 (sessionVoice s) (sessionIn s) i source q t d p in
+      let told = host-offer-told c in
+      seen-so (offer-same
+      (told .0 ∙ ap (λ (y : Offered). takenAfter (y .answer) (o .rest .lost)) is)
+      (told .1 ∙ ap (λ (y : Offered). placeAfter (takenPlace (y .answer)) (o .place)) is)
+      (told .2 ∙ ap (λ (y : Offered). layTaken (y .answer) s (sessionLaid (y .session))) is));
   host-unread = λ o a b source q t p p′ x y d c c′.
-      let same = another-sources-words-are-not-heard (sessionVoice (o .session)) (sessionIn (o .session)) source q t d p p′ in
-      seen-so (ap₂ offer-seen
-      (host-offer-told c .0 ∙ ap (λ (z : Offered). takenAfter (z .answer) (o .lost)) same ∙ sym (host-offer-told c′ .0))
-      (host-offer-told c .1 ∙ ap (λ (z : Offered). layTaken (z .answer) (o .session) (sessionLaid (z .session))) same ∙ sym (host-offer-told c′ .1)));
+      let s = o .rest .session in
+      let same = another-sources-words-are-not-heard (sessionVoice s) (sessionIn s) source q t d p p′ in
+      let told = host-offer-told c in
+      let told′ = host-offer-told c′ in
+      seen-so (offer-same
+      (told .0 ∙ ap (λ (z : Offered). takenAfter (z .answer) (o .rest .lost)) same ∙ sym (told′ .0))
+      (told .1 ∙ ap (λ (z : Offered). placeAfter (takenPlace (z .answer)) (o .place)) same ∙ sym (told′ .1))
+      (told .2 ∙ ap (λ (z : Offered). layTaken (z .answer) s (sessionLaid (z .session))) same ∙ sym (told′ .2)));
 }
   where
-    seen-so : {x y : ℕ} {a b : LentSessionLost} → _≡_ {A = ℕ × LentSessionLost} (x, a) (y, b) → (x ≡ y) × (a ≡ b)
+    seen-so : {x y : ℕ} {a b : WithPlace LentSessionLost} → _≡_ {A = ℕ × WithPlace LentSessionLost} (x, a) (y, b) → (x ≡ y) × (a ≡ b)
     seen-so e = (ap (λ w. w .0) e, ap (λ w. w .1) e)

@@ -1,12 +1,14 @@
 -- What is seen of an outcome, the answer and what was lent by its names, from what the contracts of the calls tell of it. Assumes nothing.
 use Prim.Native.Nat.{ℕ}
 use mathlib.Core.List.{List}
+use mathlib.Core.Path.{_≡_, ap}
 use denote.Ref.{RefT, now, ptr}
 use Rattle.answers.specs.declared.Written.{Written}
 use Rattle.session.specs.declared.Poured.{Poured}
 use Rattle.session.specs.declared.Session.{Session}
-use Rattle.landing.specs.Host.{PacketTold, packetTold, PlaceTold, placeTold, CountTold, countTold, WriteTold, writeTold}
+use Rattle.landing.specs.Host.{PacketTold, packetTold, FrameTold, frameTold, CountTold, countTold, WriteTold, writeTold}
 use Rattle.landing.specs.Host.{HoldingTold, holdingTold}
+use Rattle.claims.specs.Call.{WithPlace}
 use Rattle.claims.specs.Calls.Lent.{LentDst, LentOut, LentSession, LentHolding, LentSessionOut, LentLNBD, LentKindStartSize}
 use Rattle.claims.specs.Calls.Lent.{LentCount, LentOutWritten, LentSessionLost, LentSessionOutWritten}
 use Rattle.claims.specs.Calls.Lent.{LentSourceSequenceTimestampLBHeld, LentLost}
@@ -48,8 +50,8 @@ lent-poured x out session = (x, record { session = session; out = out })
 abbrev pub packet-seen : PacketTold → ℕ × LentLNBD
 packet-seen (packetTold x l n b d) = (x, record { l = l; n = n; b = b; d = d })
 
-abbrev pub place-seen : PlaceTold → ℕ × LentKindStartSize
-place-seen (placeTold x t s z) = (x, record { kind = t; start = s; size = z })
+abbrev pub frame-seen : FrameTold → ℕ × LentKindStartSize
+frame-seen (frameTold x t s z) = (x, record { kind = t; start = s; size = z })
 
 abbrev pub count-seen : CountTold → ℕ × LentCount
 count-seen (countTold x n) = (x, record { count = n })
@@ -68,3 +70,15 @@ holding-seen (holdingTold x s q t l b h) = (x, record { source = s; sequence = q
 
 abbrev pub lost-seen : CountTold → ℕ × LentLost
 lost-seen (countTold x n) = (x, record { lost = n })
+
+-- ---- the same with the place of a fault beside it
+abbrev pub at-place : {T X : Type 0} → (T → ℕ × X) → T → ℕ → ℕ × WithPlace X
+at-place seen t p = (seen t .0, record { place = p; rest = seen t .1 })
+
+abbrev pub offer-seen-at : CountTold → ℕ → List ℕ → ℕ × WithPlace LentSessionLost
+offer-seen-at t p session = at-place (λ (c : CountTold). offer-seen c session) t p
+
+-- what is told of two offers is equal
+pub offer-same : {x y m n p q : ℕ} {o w : List ℕ} → countTold x m ≡ countTold y n → p ≡ q → o ≡ w →
+    offer-seen-at (countTold x m) p o ≡ offer-seen-at (countTold y n) q w
+offer-same {q = q} {w = w} e f g = rw (f, g) (ap (λ (c : CountTold). offer-seen-at c q w) e)

@@ -134,7 +134,7 @@ one-frame kind es w e = go (entriesIn kind rule.HeaderFree es) refl e
     go (frames []) q x = apart (cc)
     go (frames (f ∷ k ∷ fs)) q x = apart (cc)
     go (frames (f ∷ [])) q x =
-        let g : groupIn kind es ≡ f ∷ [] = ap framesIn (read-any kind rule.HeaderFree es (f ∷ []) q) in
+        let g : groupIn kind es ≡ f ∷ [] = ap framesIn (read-any kind rule.HeaderFree 0 es (f ∷ []) q) in
         let ok = entries-ok kind (allowed (kind .table) rule.HeaderFree) es 0 (f ∷ []) q in
         record {
           frame = f;

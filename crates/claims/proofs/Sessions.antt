@@ -41,7 +41,7 @@ refused-offer-changes-nothing v s source q t p r e = go (offered v s source q t 
     same m o (took u f) h = let z : Accepted m ≡ Refused r = sym (ap (λ (y : Offered). y .answer) f) ∙ h in apart (cc)
 
     go : (o : Offered) → Ends v s source q t p o → o .answer ≡ Refused r → o .session ≡ s
-    go o (refuses x f) h = ap (λ (y : Offered). y .session) f
+    go o (refuses x k f) h = ap (λ (y : Offered). y .session) f
     go o (places a b l n d fs c x) h = same _ o (seen (v .shape) s (arrival (v .shape) q t l n fs) o x) h
 
 pub lost-frames-by-formula : LostFramesByFormula
@@ -53,7 +53,7 @@ lost-frames-by-formula v s source q t p l n d fs r lost e = go (offered v s sour
     counted m o (took u f) h = let z : Accepted m ≡ Accepted lost = sym (ap (λ (y : Offered). y .answer) f) ∙ h in cc
 
     go : (o : Offered) → Ends v s source q t p o → o .answer ≡ Accepted lost → lost ≡ lostBefore (v .shape) s (arrival (v .shape) q t l n fs .numbers)
-    go o (refuses x f) h = let z : Refused x ≡ Accepted lost = sym (ap (λ (y : Offered). y .answer) f) ∙ h in apart (cc)
+    go o (refuses x k f) h = let z : Refused x ≡ Accepted lost = sym (ap (λ (y : Offered). y .answer) f) ∙ h in apart (cc)
     go o (places a b l′ n′ d′ fs′ c x) h =
         let z : packet l n d fs ≡ packet l′ n′ d′ fs′ = sym r ∙ c in
         let y : arrival (v .shape) q t l′ n′ fs′ ≡ arrival (v .shape) q t l n fs = cc in

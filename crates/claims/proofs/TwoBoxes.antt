@@ -1,12 +1,12 @@
 -- A host of two boxes: a group that is dropped, and what was lost between two. Assumes nothing.
 use Prim.Native.Nat.{ℕ}
-use mathlib.Core.Bool.{Bool, true, false, cond, _&&_}
+use mathlib.Core.Bool.{Bool, true, false, cond}
 use mathlib.Core.List.{List}
 use mathlib.Core.Path.{_≡_, refl, sym, ap, _∙_}
 use lib.Dec.{eqb, leb}
 use lib.ListN.{length}
-use borrow.Author.Tests.{eqb-true, le-leb}
-use Rattle.octets.proofs.Logic.{apart, both-true}
+use borrow.Author.Tests.{le-leb}
+use Rattle.octets.proofs.Logic.{apart}
 use Rattle.frame.specs.Shape.{Shape, Voice}
 use Rattle.answers.specs.Outputs.{octets, refusedOutput, writtenOf}
 use Rattle.answers.specs.declared.Answer.the-variants as answer
@@ -24,35 +24,17 @@ use Rattle.holding.proofs.GroupLaws.{sound-has, holds-sound, sound-something, n
 use Rattle.holding.specs.declared.Holding.{Holding}
 use Rattle.holding.specs.declared.Lost.the-variants as lost
 use Rattle.pouring.specs.Pouring.{inTime, poured}
-use Rattle.session.specs.Session.{formRight, lastRight, groupRight, isOpen, refuse, accept, lastNumbers, groupBefore, begins, placedBy}
+use Rattle.session.specs.Session.{lastRight, groupRight, isOpen, refuse, accept, lastNumbers, groupBefore, begins, placedBy}
 use Rattle.session.specs.Session.{placed, arrival, judged, received, offered, pourMade, ended, afterPour, notDropped, dropped}
 use Rattle.session.specs.declared.Arrival.{Arrival}
 use Rattle.session.specs.declared.Dropped.{Dropped}
 use Rattle.session.specs.declared.Session.{Session}
+use Rattle.session.proofs.Ends.{open-has, group-has}
 use Rattle.claims.specs.TwoBoxes.{answerOf, asPoured, Alike, PourAndDropAlike, takenAs, LostBetweenIsReported}
 
 -- a holding that holds a packet is not that of nothing
 not-nothing : (v : Voice) (h : Holding) → holds v h ≡ true → isNothing (v .shape) h ≡ false
 not-nothing v h e = sound-something v h (sound-has v h (holds-sound v h e .0))
-
--- ---- a session that is open
-record Open (v : Voice) (s : Session) : Type 0 where
-  opened : s .«open» ≡ true
-  form : formRight (s .form) ≡ true
-  group : groupRight v s ≡ true
-
-open-has : (v : Voice) (s : Session) → isOpen v s ≡ true → Open v s
-unfolding isOpen
-open-has v s e =
-    let p = both-true (s .«open») (formRight (s .form) && (lastRight (v .shape) s && groupRight v s)) e in
-    let q = both-true (formRight (s .form)) (lastRight (v .shape) s && groupRight v s) (p .1) in
-    record { opened = p .0; form = q .0; group = both-true (lastRight (v .shape) s) (groupRight v s) (q .1) .1 }
-
--- its group is held, and names its source
-group-has : (v : Voice) (s : Session) → groupRight v s ≡ true → isNothing (v .shape) (s .group) ≡ false
-    → (holds v (s .group) ≡ true) × (s .group .source ≡ s .source)
-unfolding groupRight
-group-has v s e f = let p = both-true (holds v (s .group)) (eqb (s .group .source) (s .source)) (rw f at e) in (p .0, eqb-true _ _ (p .1))
 
 -- ---- pouring and dropping
 data Both (v : Voice) (s : Session) : Type 0 where
@@ -112,7 +94,7 @@ ended-open v s o h =
 module _ (u : Shape) (s : Session) (a : Arrival) where
   by-verdict : (g : GroupNumbers) (w : Verdict) → PouredEnds g (a .numbers) w → placedBy u s a w .answer ≡ takenAs (lostBy w)
   unfolding placedBy refuse begins accept lostBy takenAs
-  by-verdict g w (numbers.refused r e) = rw e refl
+  by-verdict g w (numbers.refused r n e) = rw e refl
   by-verdict g w (numbers.follows n f k e) = rw e refl
 
 ended-placed : (u : Shape) (s : Session) (a : Arrival)

@@ -28,6 +28,11 @@ pub record Call : Type 3 where
   pub lent : (κs : Lfts lifetimes) → Dens κs parameters → Lent
   pub left : (κs : Lfts lifetimes) → AtExit (endedOf lifetimes parameters result) κs → Lent
 
+-- what is lent to a call that tells where a fault is (02, i): the place, and all else
+pub record WithPlace (X : Type 0) : Type 0 where
+  pub place : ℕ
+  pub rest : X
+
 -- what a call is passed, by the lifetimes of the references
 abbrev pub Passed : (call : Call) → Lfts (call .lifetimes) → Type 0
 Passed call κs = Dens κs (call .parameters)

@@ -1,10 +1,10 @@
 -- Document 01, "Capture program": what holds of every capture. Of recordings of any kind.
-use Prim.Native.Nat.{ℕ, _+_, _≤_}
+use Prim.Native.Nat.{ℕ, _+_, _≤_, _<_}
 use mathlib.Core.Path.{_≡_}
 use mathlib.Core.List.{List, [], _∷_, _++_, map}
-use mathlib.Core.Bool.{true, cond, _&&_}
+use mathlib.Core.Bool.{true, false, cond, _&&_}
 use lib.Dec.{T, eqb, leb}
-use lib.ListN.{length}
+use lib.ListN.{length, take, replicate, getD}
 use Rattle.frame.specs.FrameTable.{Frame, single}
 use Rattle.frame.specs.Shape.{Voice, voiceWith}
 use Rattle.entries.specs.Kind.{Kind, keepsTypes, listsErasure}
@@ -12,8 +12,12 @@ use Rattle.form.specs.declared.Form.{Form}
 use Rattle.entries.specs.Entries.{entriesOf}
 use Rattle.entries.specs.Entries as entries
 use Rattle.recording.specs.Recording.{recordingRead}
+use Rattle.answers.specs.declared.Refusal.the-variants.{NotApplicable}
+use Rattle.session.specs.declared.Taken.the-variants.{Refused}
 use Rattle.capture.specs.Capture.{Heard, countOf, startAt, packetsIn, good}
-use Rattle.capture.specs.Run.{captureKind, captureForm, entriesRecorded, captureRecording, largest}
+use Rattle.capture.specs.Run.{captureKind, captureForm, Step, firstSession, offeredTo, lostIn, pouring, isTwelve, answeredBy, runOf}
+use Rattle.capture.specs.Run.{wholeRun, entriesRecorded, packetAnswered, answerOf, captureRecording, largest}
+use Rattle.capture.specs.declared.Told.the-variants as told
 use Rattle.claims.specs.Joinings.{HasRoom}
 use Rattle.claims.specs.Offering.{SentGroup, Sent, sentNumbers, numbered, stamped, Within, PouredPlaces}
 
@@ -79,3 +83,46 @@ NothingIsLarger = (c : List ℕ) → good c ≡ true → length (captureRecordin
 -- payload ends where they end, "nothing after" (octets that are not there read as 0)
 unfoldable pub CaptureExactlyIf : Type 0
 CaptureExactlyIf = (c : List ℕ) → good c ≡ (leb (length c) 65536 && leb (countOf c) 256 && eqb (startAt c (countOf c)) (length c))
+
+-- ---- document 02, (i): "Sessions, writers and the capture library pass the place on." What each packet is answered in the run that makes
+-- the recording, with its place in that packet's payload. After a 12 the held group is poured and the packet offered again, and the second
+-- answer is told; so 12 never is
+
+-- each packet is answered once
+unfoldable pub EachPacketAnswered : Type 0
+EachPacketAnswered = (kind : Kind) (hs : List Heard) → length (wholeRun kind hs .answers) ≡ length hs
+
+-- the run over the packets before packet i
+abbrev pub runBefore : Kind → List Heard → ℕ → Step
+runBefore kind hs i = runOf kind (firstSession hs) (take i hs)
+
+-- packet i is answered by the session that the packets before it leave (`none` stands where there is no packet)
+unfoldable pub AnsweredByItsStep : Type 0
+AnsweredByItsStep =
+    (kind : Kind) (hs : List Heard) (none : Heard) (i : ℕ) → i < length hs →
+    packetAnswered kind hs i ≡ answeredBy kind (runBefore kind hs i .session) (getD hs i none)
+
+-- and it adds to the recording the group that is poured on 12, and an erasure for each lost frame of its answer; the last group comes last
+pub record RecordedByItsAnswers : Type 0 where
+  pub each : (kind : Kind) (hs : List Heard) (none : Heard) (i : ℕ) → i < length hs →
+      let a = runBefore kind hs i in
+      let twelve = isTwelve (offeredTo (kind .table) (a .session) (getD hs i none) .answer) in
+      let group = cond twelve (pouring (kind .table) (a .session) .octets) [] in
+      runBefore kind hs (i + 1) .octets ≡ a .octets ++ (group ++ replicate (lostIn (packetAnswered kind hs i)) (kind .erasure))
+  pub whole : (kind : Kind) (hs : List Heard) →
+      let a = runBefore kind hs (length hs) in
+      entriesRecorded kind hs ≡ a .octets ++ pouring (kind .table) (a .session) .octets
+
+-- 12 is never told
+unfoldable pub TwelveIsNeverTold : Type 0
+TwelveIsNeverTold = (kind : Kind) (hs : List Heard) (i : ℕ) → isTwelve (packetAnswered kind hs i) ≡ false
+
+-- 21 for no such packet
+unfoldable pub NoPacketAnswers21 : Type 0
+NoPacketAnswers21 = (kind : Kind) (hs : List Heard) (i : ℕ) → length hs ≤ i → packetAnswered kind hs i ≡ Refused NotApplicable
+
+-- before that 255, exactly if it is no capture
+unfoldable pub BadCaptureIsTold : Type 0
+BadCaptureIsTold =
+    (kind : Kind) (c : List ℕ) (i : ℕ) →
+    (good c ≡ false → answerOf kind c i ≡ told.BadCapture) × (answerOf kind c i ≡ told.BadCapture → good c ≡ false)

@@ -25,7 +25,7 @@ use Rattle.landing.specs.declared.Named.the-variants.{Agreed}
 use Rattle.session.specs.declared.Offered.{Offered}
 use Rattle.session.specs.declared.Taken.the-variants.{Accepted}
 use Rattle.lending.specs.Laid.{sessionIn}
-use Rattle.claims.specs.Call.{Outcome, Build}
+use Rattle.claims.specs.Call.{Outcome, Build, WithPlace}
 use Rattle.claims.specs.Calls.Lent.{LentOut, LentSession, LentSessionLost}
 use Rattle.claims.specs.Calls.Landing as landing
 use Rattle.claims.specs.Calls.Packet as packet
@@ -124,23 +124,27 @@ Demand3 =
 
 -- ---- the same through the C calls, on octets that a host lends
 
+-- what is lent to `lv_session_offer`: the place of a fault; the session, and the lost frames
+abbrev pub LentOffer : Type 0
+LentOffer = WithPlace LentSessionLost
+
 -- its packet n, offered through `lv_session_offer`
 abbrev pub hostOffer :
-    {writers : Writers} → Build landing.lvSessionOffer → WrittenGroup writers → LentSessionLost → ℕ → ℕ × LentSessionLost
+    {writers : Writers} → Build landing.lvSessionOffer → WrittenGroup writers → LentOffer → ℕ → ℕ × LentOffer
 hostOffer offer g o n = offer .run (g .source, (numbered (g .numbers) n, (stamped (g .numbers) n, g .payload n))) o
 
 -- its packets of these numbers, one after the other
 unfoldable pub hostOfferAll :
-    {writers : Writers} → Build landing.lvSessionOffer → WrittenGroup writers → LentSessionLost → List ℕ → LentSessionLost
+    {writers : Writers} → Build landing.lvSessionOffer → WrittenGroup writers → LentOffer → List ℕ → LentOffer
 hostOfferAll offer g o [] = o
 hostOfferAll offer g o (n ∷ ns) = hostOfferAll offer g (hostOffer offer g o n .1) ns
 
 -- every answer is 0; the first tells these lost frames, the others none
 unfoldable pub HostAccepted :
-    {writers : Writers} → Build landing.lvSessionOffer → WrittenGroup writers → LentSessionLost → ℕ → List ℕ → Type 0
+    {writers : Writers} → Build landing.lvSessionOffer → WrittenGroup writers → LentOffer → ℕ → List ℕ → Type 0
 HostAccepted offer g o lost [] = Unit {0}
 HostAccepted offer g o lost (n ∷ ns) =
-    (hostOffer offer g o n .0 ≡ 0) × ((hostOffer offer g o n .1 .lost ≡ lost) × HostAccepted offer g (hostOffer offer g o n .1) 0 ns)
+    (hostOffer offer g o n .0 ≡ 0) × ((hostOffer offer g o n .1 .rest .lost ≡ lost) × HostAccepted offer g (hostOffer offer g o n .1) 0 ns)
 
 -- what `lv_session_pour` answers and leaves
 pub record HostPoured {writers : Writers} (pour : Build landing.lvSessionPour) (g : WrittenGroup writers) (o : List ℕ) (ns : List ℕ)
@@ -155,11 +159,11 @@ pub record HostPoured {writers : Writers} (pour : Build landing.lvSessionPour) (
 unfoldable pub HostDemand3 : Type 0
 HostDemand3 =
     (writers : Writers) (offer : Build landing.lvSessionOffer) (pour : Build landing.lvSessionPour) →
-    (g : WrittenGroup writers) (form : Form) → formsOf (g .written) form → (o : LentSessionLost) →
-    Ready (voiceFor form) form (sessionIn (o .session)) (g .source) (g .numbers) →
+    (g : WrittenGroup writers) (form : Form) → formsOf (g .written) form → (o : LentOffer) →
+    Ready (voiceFor form) form (sessionIn (o .rest .session)) (g .source) (g .numbers) →
     (n : ℕ) (ns : List ℕ) → Within (g .numbers .l) (n ∷ ns) →
-    HostAccepted offer g o (lostBefore (voiceFor form .shape) (sessionIn (o .session)) (g .numbers)) (n ∷ ns)
-    × HostPoured pour g (hostOfferAll offer g o (n ∷ ns) .session) (n ∷ ns)
+    HostAccepted offer g o (lostBefore (voiceFor form .shape) (sessionIn (o .rest .session)) (g .numbers)) (n ∷ ns)
+    × HostPoured pour g (hostOfferAll offer g o (n ∷ ns) .rest .session) (n ∷ ns)
 
 -- ---- "a session ready for it": one that was just opened, through `session::open` or `lv_session_open`, for every group of its source
 pub record OpenedIsReady : Type 0 where

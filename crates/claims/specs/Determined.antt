@@ -130,3 +130,6 @@ pub record Determined : Type 0 where
   pub lvSessionDrop : Fixed landing.lvSessionDrop
   pub lvHoldingRead : Fixed landing.lvHoldingRead
   pub lvHoldingLost : Fixed landing.lvHoldingLost
+  pub refusalPlace : Fixed answers.refusalPlace
+  pub captureAnswer : Fixed capture.answer
+  pub lvCaptureAnswer : Fixed landing.lvCaptureAnswer

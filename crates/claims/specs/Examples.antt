@@ -1,4 +1,4 @@
--- Document 01, "Marked examples": P1 to P15, under a single claim.
+-- Document 01, "Marked examples": P1 to P15, under a single claim; with the rows of document 02.
 use Prim.Native.Nat.{ℕ, zero, suc}
 use mathlib.Core.Path.{_≡_}
 use mathlib.Core.Bool.{true, false}
@@ -8,7 +8,16 @@ use Rattle.frame.specs.FrameTable.{Frame}
 use Rattle.frame.specs.Shape.{Voice}
 use Rattle.form.specs.Agreed.{tableOf}
 use Rattle.form.specs.Agreed.{defaultForm}
-use Rattle.answers.specs.Answers.{numberOf}
+use Rattle.answers.specs.Answers.{numberOf, placeOf}
+use Rattle.answers.specs.declared.Place.{Place}
+use Rattle.answers.specs.declared.Place.the-variants.{Octet, Nowhere}
+use Rattle.answers.specs.declared.Refusal.the-variants.{ReservedType, AnotherSource, NotApplicable}
+use Rattle.frame.specs.declared.Vocoder.the-variants.{Evrc}
+use Rattle.entries.specs.Kind.{kindOf, evrcOpening}
+use Rattle.entries.specs.Entries.{EntriesRead, entriesIn, refusedEntries}
+use Rattle.entries.specs.Entries as read
+use Rattle.entries.specs.declared.Rule.the-variants.{Sendable}
+use Rattle.recording.specs.Recording.{recordingRead}
 use Rattle.frame.specs.Places.{locatedOf, bodyOf}
 use Rattle.form.specs.declared.Form.{Form}
 use Rattle.form.specs.declared.Form.the-variants.{HeaderFree, Interleaved}
@@ -18,18 +27,22 @@ use Rattle.answers.specs.declared.Refusal.{Refusal}
 use Rattle.session.specs.Session.{isOpen, offered}
 use Rattle.session.specs.declared.Session.{Session}
 use Rattle.session.specs.declared.Offered.{Offered}
-use Rattle.session.specs.declared.Taken.the-variants.{Refused}
+use Rattle.session.specs.declared.Taken.the-variants.{Accepted, Refused}
 use Rattle.holding.specs.Group.{isNothing}
 use Rattle.numbers.specs.Bases.{baseSequence, baseTimestamp}
 use Rattle.capture.specs.Capture.{good}
-use Rattle.capture.specs.Run.{captureKind, captureRecording}
+use Rattle.capture.specs.Run.{captureKind, captureRecording, answerOf}
+use Rattle.capture.specs.declared.Told.{Told}
+use Rattle.capture.specs.declared.Told.the-variants.{Answered}
 use Rattle.payload.specs.Payload.{Reading, packet, refusedPayload, readAs}
 use Rattle.payload.specs.Shown.{givenAs}
 
--- what is said of a payload: L, N, B, D, where each frame lies and its body; or the number of the refusal
+-- what is said of a payload: L, N, B, D, where each frame lies and its body; or the number of the refusal and its place (02, i). Of a
+-- recording, or of entries given to a writer: the number of frames, or the same
 pub data Says : Type 0 where
   holds : (l n b d : ℕ) → List Located → List (List ℕ) → Says
-  number : ℕ → Says
+  counts : ℕ → Says
+  number : ℕ → Place → Says
 
 -- the numbers below n, from m on
 abbrev from : ℕ → ℕ → List ℕ
@@ -38,7 +51,7 @@ from m (suc n) = m ∷ from (suc m) n
 
 -- the same of what a payload was read as
 abbrev saidOf : Form → List ℕ → Reading → Says
-saidOf f p (refusedPayload x) = number (numberOf (x .refusal))
+saidOf f p (refusedPayload r) = number (numberOf r) (placeOf r)
 saidOf f p (packet l n d fs) =
     holds l n (length fs) d (map (locatedOf (givenAs (tableOf f) f p)) (from 0 (length fs)))
     (map (bodyOf (givenAs (tableOf f) f p)) (from 0 (length fs)))
@@ -66,24 +79,90 @@ rows =
       octets = 0x08 ∷ 0x81 ∷ 0x01 ∷ 0x11 ∷ 0x11 ∷ 0x33 ∷ 0x33 ∷ [];
       says = holds 1 0 2 0 (At 1 3 2 ∷ At 1 5 2 ∷ []) ((0x11 ∷ 0x11 ∷ []) ∷ (0x33 ∷ 0x33 ∷ []) ∷ []);
     } ∷
-    -- P2 to P6
-    record { form = defaultForm; octets = []; says = number 1 } ∷
-    record { form = defaultForm; octets = 0x0A ∷ []; says = number 2 } ∷
-    record { form = defaultForm; octets = 0x30 ∷ []; says = number 3 } ∷
-    record { form = maximumSix; octets = 0x30 ∷ []; says = number 4 } ∷
-    record { form = defaultForm; octets = 0x00 ∷ 0x81 ∷ []; says = number 4 } ∷
-    record { form = defaultForm; octets = 0x00 ∷ 0x02 ∷ []; says = number 5 } ∷
+    -- P2 to P6, with their places (02, i)
+    record { form = defaultForm; octets = []; says = number 1 Nowhere } ∷
+    record { form = defaultForm; octets = 0x0A ∷ []; says = number 2 Nowhere } ∷
+    record { form = defaultForm; octets = 0x30 ∷ []; says = number 3 Nowhere } ∷
+    record { form = maximumSix; octets = 0x30 ∷ []; says = number 4 (Octet 1) } ∷
+    record { form = defaultForm; octets = 0x00 ∷ 0x81 ∷ []; says = number 4 (Octet 2) } ∷
+    record { form = defaultForm; octets = 0x00 ∷ 0x02 ∷ []; says = number 5 (Octet 1) } ∷
     -- P7: ten times 81, then 01
-    record { form = defaultForm; octets = 0x00 ∷ (replicate 10 0x81 ++ (0x01 ∷ [])); says = number 6 } ∷
+    record { form = defaultForm; octets = 0x00 ∷ (replicate 10 0x81 ++ (0x01 ∷ [])); says = number 6 (Octet 11) } ∷
     -- P8, P9
-    record { form = defaultForm; octets = 0x00 ∷ 0x01 ∷ 0x11 ∷ []; says = number 7 } ∷
-    record { form = defaultForm; octets = 0x00 ∷ 0x01 ∷ 0x11 ∷ 0x11 ∷ 0x00 ∷ []; says = number 8 } ∷
+    record { form = defaultForm; octets = 0x00 ∷ 0x01 ∷ 0x11 ∷ []; says = number 7 (Octet 2) } ∷
+    record { form = defaultForm; octets = 0x00 ∷ 0x01 ∷ 0x11 ∷ 0x11 ∷ 0x00 ∷ []; says = number 8 (Octet 4) } ∷
     -- P10: accepted, one Blank
     record { form = defaultForm; octets = 0xC0 ∷ 0x00 ∷ []; says = holds 0 0 1 0 (At 0 2 0 ∷ []) ([] ∷ []) } ∷
     -- P14: lengths 22, 0 and 5
     record { form = HeaderFree; octets = replicate 22 0x55; says = holds 0 0 1 0 (At 4 0 22 ∷ []) (replicate 22 0x55 ∷ []) } ∷
-    record { form = HeaderFree; octets = []; says = number 9 } ∷
-    record { form = HeaderFree; octets = replicate 5 0x55; says = number 9 } ∷
+    record { form = HeaderFree; octets = []; says = number 9 Nowhere } ∷
+    record { form = HeaderFree; octets = replicate 5 0x55; says = number 9 Nowhere } ∷
+    []
+
+-- (02, i) octets that are judged besides: a payload, under maxima 5 and 10; a recording; entries that a packet is to be written of
+pub data Judged : Type 0 where
+  payload : List ℕ → Judged
+  recording : List ℕ → Judged
+  entries : List ℕ → Judged
+
+-- what is said of entries that were read
+abbrev countOf : EntriesRead → Says
+countOf (read.frames fs) = counts (length fs)
+countOf (refusedEntries r) = number (numberOf r) (placeOf r)
+
+-- what is said of octets that are judged
+abbrev pub judged : Judged → Says
+judged (payload p) = said defaultForm p
+judged (recording p) = countOf (recordingRead (kindOf Evrc) p)
+judged (entries es) = countOf (entriesIn (kindOf Evrc) Sendable es)
+
+-- a row: octets, and what is said of them
+pub record PlaceRow : Type 0 where
+  pub octets : Judged
+  pub says : Says
+
+-- the rows of (i)
+abbrev pub placeRows : List PlaceRow
+placeRows =
+    -- "for 4 the payload's length"; "for 5 and 6 the entry's place"
+    record { octets = payload (0x00 ∷ []); says = number 4 (Octet 1) } ∷
+    record { octets = payload (0x00 ∷ 0x81 ∷ 0x02 ∷ []); says = number 5 (Octet 2) } ∷
+    record { octets = payload (0x00 ∷ (replicate 10 0x81 ++ (0x02 ∷ []))); says = number 6 (Octet 11) } ∷
+    -- "for 7 the place of the first body that doesn't fit whole", which may be the payload's length
+    record { octets = payload (0x00 ∷ 0x01 ∷ []); says = number 7 (Octet 2) } ∷
+    record { octets = payload (0x00 ∷ 0x80 ∷ 0x81 ∷ 0x8E ∷ 0x03 ∷ 0xAA ∷ 0xAA ∷ []); says = number 7 (Octet 7) } ∷
+    -- "for 8 the first octet left over"
+    record { octets = payload (0x00 ∷ 0x8E ∷ 0x80 ∷ 0x0E ∷ 0x00 ∷ []); says = number 8 (Octet 4) } ∷
+    -- "Recordings do the same for 5 and 19, with the place of the entry octet", the opening octets counted
+    record { octets = recording (evrcOpening ++ (0x02 ∷ [])); says = number 5 (Octet 7) } ∷
+    record { octets = recording (evrcOpening ++ (0x01 ∷ 0x11 ∷ 0x11 ∷ 0x01 ∷ 0x11 ∷ [])); says = number 19 (Octet 10) } ∷
+    record { octets = recording (0x23 ∷ 0x21 ∷ 0x45 ∷ 0x56 ∷ 0x52 ∷ 0x43 ∷ 0x02 ∷ []); says = number 18 Nowhere } ∷
+    record { octets = recording (evrcOpening ++ (0x01 ∷ 0x11 ∷ 0x11 ∷ 0x0E ∷ [])); says = counts 2 } ∷
+    -- "writers .. pass the place on": the first of the entries is at 0; 17 has none
+    record { octets = entries (0x01 ∷ 0x11 ∷ 0x11 ∷ 0x02 ∷ []); says = number 5 (Octet 3) } ∷
+    record { octets = entries (0x01 ∷ 0x11 ∷ []); says = number 19 (Octet 0) } ∷
+    record { octets = entries (0x0E ∷ []); says = number 17 Nowhere } ∷
+    []
+
+-- (02, i) a capture of which each packet is told what it was answered: taken; 5 at octet 1 of its payload; another source; a later group,
+-- taken when it was offered again, with a lost frame before it. There is no packet 4
+abbrev pub fourPackets : List ℕ
+fourPackets =
+    0x00 ∷ 0x04 ∷
+    0x00 ∷ 0x00 ∷ 0x00 ∷ 0x07 ∷ 0x00 ∷ 0x01 ∷ 0x00 ∷ 0x00 ∷ 0x00 ∷ 0x00 ∷ 0x00 ∷ 0x02 ∷
+    0x00 ∷ 0x00 ∷ 0x00 ∷ 0x07 ∷ 0x00 ∷ 0x02 ∷ 0x00 ∷ 0x00 ∷ 0x00 ∷ 0xA0 ∷ 0x00 ∷ 0x02 ∷
+    0x00 ∷ 0x00 ∷ 0x00 ∷ 0x08 ∷ 0x00 ∷ 0x03 ∷ 0x00 ∷ 0x00 ∷ 0x01 ∷ 0x40 ∷ 0x00 ∷ 0x01 ∷
+    0x00 ∷ 0x00 ∷ 0x00 ∷ 0x07 ∷ 0x00 ∷ 0x03 ∷ 0x00 ∷ 0x00 ∷ 0x01 ∷ 0x40 ∷ 0x00 ∷ 0x02 ∷
+    0x00 ∷ 0x00 ∷ 0x00 ∷ 0x02 ∷ 0x00 ∷ 0x00 ∷ 0x00 ∷ []
+
+-- what its packets were answered
+abbrev pub fourAnswers : List Told
+fourAnswers =
+    Answered (Accepted 0) ∷
+    Answered (Refused (ReservedType 1)) ∷
+    Answered (Refused AnotherSource) ∷
+    Answered (Accepted 1) ∷
+    Answered (Refused NotApplicable) ∷
     []
 
 -- an open session that holds a group of base FFFF and L 1
@@ -143,6 +222,8 @@ pub record WholeCase : Type 0 where
 -- octets are a frame of type 4
 pub record MarkedExamples : Type 0 where
   pub asSaid : map (λ (r : Row). said (r .form) (r .octets)) rows ≡ map (λ (r : Row). r .says) rows
+  pub places : map (λ (r : PlaceRow). judged (r .octets)) placeRows ≡ map (λ (r : PlaceRow). r .says) placeRows
+  pub answers : map (answerOf captureKind fourPackets) (from 0 5) ≡ fourAnswers
   pub anyRate1 : (p : List ℕ) → length p ≡ 22 → readAs (tableOf HeaderFree) HeaderFree p ≡ packet 0 0 0 (record { type = 4; body = p } ∷ [])
   pub bases : (baseSequence 0 1 ≡ 0xFFFF) × (baseTimestamp 0 1 ≡ 0xFFFFFF60)
   pub distances : P15

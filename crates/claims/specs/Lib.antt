@@ -18,6 +18,6 @@ pub mod Captures
 pub mod Lent
 pub mod LentJoinings
 pub mod Examples
-pub mod Faults
+pub mod Places
 pub mod Idle
 pub mod Determined

@@ -25,9 +25,11 @@ use Rattle.claims.specs.Boxes.{CopiedOut, BoxesJoin}
 use Rattle.claims.specs.Joinings.{EveryOrderAndGrouping, EveryPermutation, WithItself, DifferenceEndsIn14, ElseTheyJoin}
 use Rattle.claims.specs.Joinings.{NothingLost, NothingInvented, EqualKnowledge, EveryPlaceInTime, VoicesHaveRoom}
 use Rattle.claims.specs.Captures.{GroupIsRecorded, FirstSourceAlone, OthersAreNotHeard, GivesARecording, NoPacketGivesOpening}
-use Rattle.claims.specs.Captures.{NothingIsLarger, CaptureExactlyIf}
+use Rattle.claims.specs.Captures.{NothingIsLarger, CaptureExactlyIf, EachPacketAnswered, AnsweredByItsStep, RecordedByItsAnswers}
+use Rattle.claims.specs.Captures.{TwelveIsNeverTold, NoPacketAnswers21, BadCaptureIsTold}
 use Rattle.claims.specs.Examples.{MarkedExamples}
-use Rattle.claims.specs.Faults.{FaultsHavePlaces}
+use Rattle.claims.specs.Places.{PlaceInside, TableIsCut, TypeIsReserved, EntryIsPastMaximum, BodiesAreCut, OctetsAreLeft}
+use Rattle.claims.specs.Places.{RecordingFaults, EntriesFaults}
 use Rattle.claims.specs.Idle.{Buildable, RefusesEverything, PoursErasures, StoresNothing, NodsAtLater, InventsLostFrames}
 use Rattle.claims.specs.Idle.{InventsOctetCounts}
 use Rattle.claims.specs.Determined.{Determined}
@@ -139,5 +141,21 @@ pub record Promised : Type 0 where
   pub nods-at-later : NodsAtLater
   pub invents-lost-frames : InventsLostFrames
   pub invents-octet-counts : InventsOctetCounts
-  -- document 02, (i): "Refusals 4 to 8 of a payload must carry the octet place of the fault"; the calls show the refusal alone as yet
-  pub faults-have-places : FaultsHavePlaces
+  -- document 02, (i): "Refusals 4 to 8 of a payload must carry the octet place of the fault: for 4 the payload's length, for 5 and 6 the
+  -- entry's place, for 7 the place of the first body that doesn't fit whole, for 8 the first octet left over."
+  pub place-inside : PlaceInside
+  pub table-is-cut : TableIsCut
+  pub type-is-reserved : TypeIsReserved
+  pub entry-is-past-maximum : EntryIsPastMaximum
+  pub bodies-are-cut : BodiesAreCut
+  pub octets-are-left : OctetsAreLeft
+  -- "Recordings do the same for 5 and 19, with the place of the entry octet." Writers "pass the place on"
+  pub recording-faults : RecordingFaults
+  pub entries-faults : EntriesFaults
+  -- "the capture library pass the place on": what each packet of a capture is answered
+  pub each-packet-answered : EachPacketAnswered
+  pub answered-by-its-step : AnsweredByItsStep
+  pub recorded-by-its-answers : RecordedByItsAnswers
+  pub twelve-is-never-told : TwelveIsNeverTold
+  pub no-packet-answers-21 : NoPacketAnswers21
+  pub bad-capture-is-told : BadCaptureIsTold

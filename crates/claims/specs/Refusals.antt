@@ -23,7 +23,7 @@ use Rattle.session.specs.declared.Taken.the-variants as taken
 use Rattle.capture.specs.declared.Outcome as captured
 use Rattle.capture.specs.declared.Outcome.the-variants as outcome
 use Rattle.lending.specs.Laid.{sessionIn, sessionVoice}
-use Rattle.claims.specs.Call.{Call, Passed, Returned, Ended, Outcome}
+use Rattle.claims.specs.Call.{Call, WithPlace, Passed, Returned, Ended, Outcome}
 use Rattle.claims.specs.Calls.Lent.{LentSessionLost}
 use Rattle.claims.specs.Calls.Recording as recording
 use Rattle.claims.specs.Calls.Packet as packet
@@ -104,10 +104,10 @@ pub record AnotherSource : Type 0 where
       Outcome session.offer (s, (source, (sequence, (timestamp, p)))) tt x tt →
       Outcome session.offer (s, (source, (sequence, (timestamp, q)))) tt y tt → x ≡ y
   -- and of `lv_session_offer`, on lent octets
-  pub host-is-10 : (o after : LentSessionLost) (source sequence timestamp : ℕ) (p : List ℕ) (x : ℕ) →
-      (source ≡ sessionIn (o .session) .source → ⊥) → isOpen (sessionVoice (o .session)) (sessionIn (o .session)) ≡ true →
+  pub host-is-10 : (o after : WithPlace LentSessionLost) (source sequence timestamp : ℕ) (p : List ℕ) (x : ℕ) →
+      (source ≡ sessionIn (o .rest .session) .source → ⊥) → isOpen (sessionVoice (o .rest .session)) (sessionIn (o .rest .session)) ≡ true →
       Outcome landing.lvSessionOffer (source, (sequence, (timestamp, p))) o x after → (x ≡ 10) × (after ≡ o)
-  pub host-unread : (o a b : LentSessionLost) (source sequence timestamp : ℕ) (p q : List ℕ) (x y : ℕ) →
-      (source ≡ sessionIn (o .session) .source → ⊥) →
+  pub host-unread : (o a b : WithPlace LentSessionLost) (source sequence timestamp : ℕ) (p q : List ℕ) (x y : ℕ) →
+      (source ≡ sessionIn (o .rest .session) .source → ⊥) →
       Outcome landing.lvSessionOffer (source, (sequence, (timestamp, p))) o x a →
       Outcome landing.lvSessionOffer (source, (sequence, (timestamp, q))) o y b → (x ≡ y) × (a ≡ b)

@@ -4,6 +4,7 @@ use mathlib.Core.List.{List}
 use denote.Ref.{now}
 use Rattle.capture.specs.declared.Fault.{Fault}
 use Rattle.capture.specs.declared.Outcome.{Outcome}
+use Rattle.capture.specs.declared.Told.{Told}
 use Rattle.capture.proofs as contracts
 use Rattle.claims.specs.Call.{Call}
 use Rattle.claims.specs.Calls.Lent.{LentOut}
@@ -54,4 +55,20 @@ abbrev pub «record» : Call
   Lent = LentOut;
   lent = λ κs a. record { out = now (a .1 .0) };
   left = λ κs s. record { out = now (s .1 .0) };
+}
+
+-- answer(capture: &[u8], i: usize) -> Told
+abbrev pub answer : Call
+answer = record {
+  lifetimes = 1;
+  parameters = contracts.answer.Kinds.ps;
+  result = contracts.answer.Kinds.r;
+  allows = contracts.answer.Reads.Post;
+  Answer = Told;
+  answer = λ κs x. x;
+  Given = List ℕ × ℕ;
+  given = λ κs a. (now (a .0), a .1 .0);
+  Lent = Unit {0};
+  lent = λ κs a. tt;
+  left = λ κs s. tt;
 }

@@ -9,7 +9,7 @@ use Rattle.entries.proofs as contracts
 use Rattle.claims.specs.Call.{Call}
 use Rattle.claims.specs.Calls.Lent.{LentOut}
 
--- count(vocoder: Vocoder, rule: Rule, entries: &[u8]) -> Counted
+-- count(vocoder: Vocoder, rule: Rule, entries: &[u8], from: usize) -> Counted
 abbrev pub count : Call
 count = record {
   lifetimes = 1;
@@ -18,8 +18,8 @@ count = record {
   allows = contracts.count.Reads.Post;
   Answer = Counted;
   answer = λ κs x. x;
-  Given = Vocoder × (Rule × List ℕ);
-  given = λ κs a. (a .0, (a .1 .0, now (a .1 .1 .0)));
+  Given = Vocoder × (Rule × (List ℕ × ℕ));
+  given = λ κs a. (a .0, (a .1 .0, (now (a .1 .1 .0), a .1 .1 .1 .0)));
   Lent = Unit {0};
   lent = λ κs a. tt;
   left = λ κs s. tt;

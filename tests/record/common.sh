@@ -1,4 +1,4 @@
-# What the tests of ./record and make share. Each is run by itself, from anywhere, once the recorder is built; it
+# What the tests of ./record and make share. Each is run by itself, from anywhere, once the programs are built; it
 # says what is wrong and ends with 1, or is silent.
 set -u
 root=$(cd "$(dirname "${BASH_SOURCE[0]}")/../.." && pwd) || exit 1
@@ -72,7 +72,7 @@ make_tree() {
     cp -r "$root"/{record,Makefile,landing_voice.pc.in,crates.txt,tools} tree
     cp "$root/include/landing_voice.h" tree/include
     (cd "$root" && cp -r --parents crates/octets "$work/tree")
-    cp "$root/target/bin/recorder" tree/made/recorder
+    cp "$root"/target/bin/{recorder,explain} tree/made
     printf 'an archive' >tree/made/liblanding.a
     cat >tree/bin/rt <<'END'
 #!/bin/sh
@@ -87,7 +87,7 @@ done
 if [ -e during ]; then rm during && touch crates/octets/src; fi
 mkdir -p target/bin target/staticlib
 case $1 in
-check) cp made/recorder target/bin ;;
+check) cp "made/$2" target/bin ;;
 staticlib) cp made/liblanding.a target/staticlib ;;
 esac
 rmdir running

@@ -42,11 +42,11 @@ int main(void)
         return 1;
     clock_gettime(CLOCK_MONOTONIC, &from);
     for (uint32_t group = 0; group < GROUPS; group++) {
-        size_t lost = 0, written = 0;
+        size_t lost = 0, written = 0, place = 0;
         for (uint32_t n = 0; n <= L; n++) {
             payload[n][1 + B] = (uint8_t)group;
             if (lv_session_offer(session, sizeof session, 7, (uint16_t)(group * (L + 1) + n), group * 160 * (L + 1) * B + 160 * n, payload[n],
-                                 PAYLOAD, &lost) != LV_OK)
+                                 PAYLOAD, &lost, &place) != LV_OK)
                 return 1;
         }
         if (lv_session_pour(session, sizeof session, out, sizeof out, &written) != LV_OK)

@@ -7,7 +7,8 @@
  *     end NAME                                 the talk is over
  *
  * Standard output gets the talk's recording; with -x, a line of hexadecimal for each talk. With `ice` or `office`
- * for an argument, that box is recorded alone. Standard error gets a line for each packet or group that is refused.
+ * for an argument, that box is recorded alone. Standard error gets a line for each packet or group that is refused,
+ * and for a payload at fault the octet where the fault is, counted from 0.
  *
  * A talk is recorded group by group. Each box offers its packets to its own session, up to the first one of a later
  * group; then what the two hold is copied out, joined and poured, and dropped from their sessions. So it does not
@@ -66,6 +67,9 @@ struct group {
     uint8_t l, b, held;
 };
 
+/* What a place is before a call: only a refusal that has one changes it. */
+#define NOWHERE ((size_t)-1)
+
 static struct talk talk;
 static uint8_t recording[LV_OPENING_OCTETS + ENTRIES];
 static int hex;          /* whether recordings are written in hexadecimal */
@@ -81,20 +85,38 @@ static void give_up(const char *why)
     exit(1);
 }
 
+/* Ends a line: a refusal by its number and in words, and the octet at fault if it has a place. */
+static void tell_refusal(uint8_t answer, size_t place)
+{
+    fprintf(stderr, "refused %u, %s", (unsigned)answer, lv_answer_text(answer));
+    if (place != NOWHERE)
+        fprintf(stderr, ", at octet %lu", (unsigned long)place);
+    fprintf(stderr, "\n");
+}
+
 /* Ends the program where a call is refused that is not to be. */
-static void must(const char *what, uint8_t answer)
+static void must_at(const char *what, uint8_t answer, size_t place)
 {
     if (answer == LV_OK)
         return;
-    fprintf(stderr, "recorder: %s: refused %u, %s\n", what, (unsigned)answer, lv_answer_text(answer));
+    fprintf(stderr, "recorder: %s: ", what);
+    tell_refusal(answer, place);
     exit(1);
 }
 
-/* Tells that a box's packet, or the group that begins at this sequence number, is refused. */
-static void tell(const struct box *box, uint32_t source, uint16_t sequence, uint8_t answer)
+/* The same for a call whose refusals have no place. */
+static void must(const char *what, uint8_t answer)
 {
-    fprintf(stderr, "%s: source %08lX sequence %u: refused %u, %s\n", box_names[box - talk.boxes],
-            (unsigned long)source, (unsigned)sequence, (unsigned)answer, lv_answer_text(answer));
+    must_at(what, answer, NOWHERE);
+}
+
+/* Tells that a box's packet, or the group that begins at this sequence number, is refused; of a payload at fault, also
+ * where. */
+static void tell(const struct box *box, uint32_t source, uint16_t sequence, uint8_t answer, size_t place)
+{
+    fprintf(stderr, "%s: source %08lX sequence %u: ", box_names[box - talk.boxes], (unsigned long)source,
+            (unsigned)sequence);
+    tell_refusal(answer, place);
 }
 
 /* What the group held by a box is. */
@@ -132,13 +154,14 @@ static void hear(struct box *box)
     for (; box->next < box->count; box->next++) {
         const struct packet *packet = &box->packets[box->next];
         size_t lost; /* not looked at: record_group says why */
+        size_t place = NOWHERE;
         uint8_t answer = lv_session_offer(box->session, sizeof box->session, packet->source, packet->sequence,
-                                          packet->timestamp, packet->payload, packet->len, &lost);
+                                          packet->timestamp, packet->payload, packet->len, &lost, &place);
 
         if (answer == LV_LATER_GROUP || answer == LV_TOO_FAR_AHEAD)
             break;
         if (answer != LV_OK)
-            tell(box, packet->source, packet->sequence, answer);
+            tell(box, packet->source, packet->sequence, answer, place);
     }
     copy_out(box);
 }
@@ -153,7 +176,7 @@ static int skip_waiting(void)
     for (box = talk.boxes; box < talk.boxes + BOXES; box++)
         if (box->next < box->count) {
             const struct packet *packet = &box->packets[box->next++];
-            tell(box, packet->source, packet->sequence, LV_TOO_FAR_AHEAD);
+            tell(box, packet->source, packet->sequence, LV_TOO_FAR_AHEAD, NOWHERE);
             skipped = 1;
         }
     return skipped;
@@ -195,7 +218,7 @@ static void end_group(struct box *box, struct box *other, uint8_t answer)
     box->holds = 0;
     if (answer != LV_OK) {
         struct group group = group_of(box);
-        tell(box, group.source, group.sequence, answer);
+        tell(box, group.source, group.sequence, answer, NOWHERE);
         begin(box);
         return;
     }
@@ -264,9 +287,10 @@ static void record_talk(struct box *ice, struct box *office)
 /* Writes a talk's recording. */
 static void write_talk(const char *name)
 {
-    size_t written;
+    size_t written, place = NOWHERE;
+    uint8_t answer = lv_recording_write(talk.entries, talk.len, recording, sizeof recording, &written, &place);
 
-    must("writing the recording", lv_recording_write(talk.entries, talk.len, recording, sizeof recording, &written));
+    must_at("writing the recording", answer, place);
     if (hex)
         hex_line(name, recording, written);
     else if (fwrite(recording, 1, written, stdout) != written)

@@ -8,7 +8,7 @@ use std::thread;
 
 use crate::call::{Call, Left};
 use crate::rng::Rng;
-use crate::table::{Entry, Kind, Table};
+use crate::table::{Entry, Kind, Table, PLACE};
 
 /// A server that runs.
 pub struct Library {
@@ -94,6 +94,7 @@ fn lend(call: &Call, entry: &Entry, rng: &mut Rng) -> Vec<Buffer> {
     let lend = |(octets, kind): (&Vec<u8>, Kind)| {
         let (offset, after) = match kind {
             Kind::Out(octets) => (FENCE - octets % FENCE, FENCE),
+            Kind::Place => (FENCE - PLACE, FENCE),
             Kind::Shown => (rng.between(0, FENCE), rng.pick(&[0, FENCE, FENCE, FENCE])),
             _ => (rng.between(1, FENCE), FENCE),
         };

@@ -1,4 +1,4 @@
-//! Compares the landing voice library with an independent reading of document 01.
+//! Compares the landing voice library with an independent reading of document 01, and of (i) of document 02.
 //!
 //! `call` is a C call. `paper` says what it ought to leave, `library` what it does leave, by another program
 //! (`serve.c`), whose `table` has the calls of the header. `inputs` makes calls, from the numbers of `rng`; `rows`
@@ -51,7 +51,7 @@ const SEEDED: [Seeded; 4] = [
     (&["lv_payload_read", "lv_payload_frame"], 6, payloads::seeded),
     (&["lv_recording_read", "lv_recording_frame", "lv_recording_write"], 3, recordings::seeded),
     (&["lv_packet_write", "lv_packet_write_header_free"], 4, packets::seeded),
-    (&["lv_capture_record"], 1, captures::seeded),
+    (&["lv_capture_record", "lv_capture_answer"], 1, captures::seeded),
 ];
 
 /// How many rounds of seeded inputs there are, how many sequences are played side by side, and how many calls each has.

@@ -9,7 +9,7 @@ use crate::library::Made;
 use crate::table::Table;
 
 /// The answers that each call can give.
-const ANSWERS: [(&str, &[u8]); 18] = [
+const ANSWERS: [(&str, &[u8]); 19] = [
     ("lv_payload_read", &[0, 1, 2, 3, 4, 5, 6, 7, 8, 9, 21]),
     ("lv_payload_frame", &[0, 1, 2, 3, 4, 5, 6, 7, 8, 9, 21]),
     ("lv_packet_write", &[0, 2, 3, 5, 6, 15, 17, 19, 21]),
@@ -18,6 +18,7 @@ const ANSWERS: [(&str, &[u8]); 18] = [
     ("lv_recording_frame", &[0, 5, 18, 19, 21]),
     ("lv_recording_write", &[0, 5, 15, 19]),
     ("lv_capture_record", &[0, 15, 255]),
+    ("lv_capture_answer", &[0, 1, 2, 4, 5, 6, 7, 8, 10, 11, 13, 14, 16, 21, 255]),
     ("lv_session_open", &[0, 15, 21]),
     ("lv_session_offer", &[0, 1, 2, 3, 4, 5, 6, 7, 8, 9, 10, 11, 12, 13, 14, 16, 21]),
     ("lv_session_pour", &[0, 15, 21]),

@@ -1,8 +1,9 @@
 //! Rows: calls with answers worked out by hand, in `compare/rows/*.txt`. Both the library and the paper's reading
 //! have to give them.
 //!
-//! A row is a call, its arguments in the order of its parameters, `->`, and what is left: the answer; and if it is 0,
-//! what the call wrote, in the order of its parameters. Both sides have
+//! A row is a call, its arguments in the order of its parameters, `->`, and what is left: the answer; if it is 0, what
+//! the call wrote, in the order of its parameters; if it is a refusal that has a place, `@` and that place. A place that
+//! is not stated stays as it was. Both sides have
 //!
 //! ```text
 //! 7, 0xFFFF              a number
@@ -156,7 +157,7 @@ impl Player<'_> {
 
     /// Takes the argument of a parameter.
     fn take(&self, given: &mut Given, parameter: &Parameter, words: &mut Words) -> Result<(), String> {
-        if let Kind::Out(_) = parameter.kind {
+        if let Kind::Out(_) | Kind::Place = parameter.kind {
             given.names.push(None);
             return Ok(());
         }
@@ -215,7 +216,8 @@ impl Row {
         Some(Row { stated: vec![true; call.buffers.len()], call, due })
     }
 
-    /// Takes what is stated: the answer, and if it is 0, each lent buffer without a name and each out-parameter.
+    /// Takes what is stated: the answer; if it is 0, each lent buffer without a name and each out-parameter; else the
+    /// place of the fault, if it has one.
     fn state(
         &mut self,
         kinds: &[Kind],
@@ -228,24 +230,43 @@ impl Row {
         for (place, kind) in kinds.iter().enumerate() {
             let named = *kind == Kind::Lent && names[place].is_some();
             self.stated.push(answer != 0 || !named);
-            if answer != 0 || *kind == Kind::Shown || named {
-                continue;
-            }
-            let due = &mut self.due.buffers[place];
-            match stated.next().ok_or("too little is stated")? {
-                Word::Not => self.stated[place] = false,
-                Word::Number(number) => *due = number.to_le_bytes()[..due.len()].to_vec(),
-                Word::Octets(octets) => {
-                    if fit == Some(place) {
-                        due.resize(octets.len(), UNWRITTEN);
-                        self.call.buffers[place].clone_from(due);
-                    }
-                    due.get_mut(..octets.len()).ok_or("more than there is room for")?.copy_from_slice(&octets);
+            match kind {
+                Kind::Place if answer != 0 => self.state_place(place, stated.next())?,
+                Kind::Lent | Kind::Out(_) if answer == 0 && !named => {
+                    self.state_written(place, fit, stated.next().ok_or("too little is stated")?)?;
                 }
-                word => return Err(format!("{word:?} is stated")),
+                _ => {}
             }
         }
         stated.next().map_or(Ok(()), |word| Err(format!("too much is stated: {word:?}")))
+    }
+
+    /// Takes what is stated of a buffer that an accepted call wrote.
+    fn state_written(&mut self, place: usize, fit: Option<usize>, word: Word) -> Result<(), String> {
+        let due = &mut self.due.buffers[place];
+        match word {
+            Word::Not => self.stated[place] = false,
+            Word::Number(number) => *due = number.to_le_bytes()[..due.len()].to_vec(),
+            Word::Octets(octets) => {
+                if fit == Some(place) {
+                    due.resize(octets.len(), UNWRITTEN);
+                    self.call.buffers[place].clone_from(due);
+                }
+                due.get_mut(..octets.len()).ok_or("more than there is room for")?.copy_from_slice(&octets);
+            }
+            word => return Err(format!("{word:?} is stated")),
+        }
+        Ok(())
+    }
+
+    /// Takes the place of a fault; where none is stated it stays as it was.
+    fn state_place(&mut self, place: usize, word: Option<Word>) -> Result<(), String> {
+        match word {
+            None => {}
+            Some(Word::Place(octet)) => self.due.buffers[place] = octet.to_le_bytes().to_vec(),
+            Some(word) => return Err(format!("{word:?} is stated")),
+        }
+        Ok(())
     }
 }
 
@@ -258,6 +279,7 @@ enum Word {
     Room(usize),
     Fit,
     Not,
+    Place(u64),
 }
 
 type Words = std::vec::IntoIter<Word>;
@@ -280,6 +302,7 @@ fn arguments(words: &[String]) -> Result<Vec<Word>, String> {
             "room" => Word::Room(read_number(words.next().unwrap_or_default())? as usize),
             "fit" => Word::Fit,
             ".." => Word::Not,
+            word if word.starts_with('@') => Word::Place(read_number(&word[1..])?),
             word if word.starts_with(|first: char| first.is_ascii_digit()) => Word::Number(read_number(word)?),
             word => Word::Named(word.into()),
         });

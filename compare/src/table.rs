@@ -18,15 +18,19 @@ pub struct Parameter {
     pub kind: Kind,
 }
 
-/// What a parameter is: a number; octets that are shown to be read, or lent to be written; or an out-parameter of so
-/// many octets.
+/// What a parameter is: a number; octets that are shown to be read, or lent to be written; an out-parameter of so many
+/// octets; or the place of a fault, the out-parameter that a refusal may set.
 #[derive(Clone, Copy, Debug, PartialEq, Eq)]
 pub enum Kind {
     Scalar,
     Shown,
     Lent,
     Out(usize),
+    Place,
 }
+
+/// The octets of a place.
+pub const PLACE: usize = 8;
 
 impl Kind {
     /// The kind that a word of the table names.
@@ -39,6 +43,7 @@ impl Kind {
             "out16" => Kind::Out(2),
             "out32" => Kind::Out(4),
             "outsize" => Kind::Out(8),
+            "place" => Kind::Place,
             _ => return None,
         })
     }
@@ -65,7 +70,8 @@ impl Table {
         let mut given = given.into_iter();
         let mut buffer = |kind| match kind {
             Kind::Scalar => None,
-            Kind::Out(octets) => Some(rng.octets(octets).iter().map(|octet| octet | 0x80).collect()),
+            Kind::Out(octets) => Some(unset(octets, rng)),
+            Kind::Place => Some(unset(PLACE, rng)),
             Kind::Shown | Kind::Lent => Some(given.next().expect("octets are given for each buffer")),
         };
         let buffers = entry.parameters.iter().filter_map(|parameter| buffer(parameter.kind)).collect();
@@ -94,6 +100,11 @@ fn entry(line: &str, known: &[&'static str]) -> Result<Entry, String> {
     Ok(Entry { name, parameters: parameters.ok_or_else(|| format!("not a line of the table: {line}"))? })
 }
 
+/// An out-parameter of so many octets before a call: a number that no answer has.
+fn unset(octets: usize, rng: &mut Rng) -> Vec<u8> {
+    rng.octets(octets).iter().map(|octet| octet | 0x80).collect()
+}
+
 /// The number in an out-parameter.
 pub fn number(octets: &[u8]) -> u64 {
     octets.iter().rev().fold(0, |number, octet| number << 8 | u64::from(*octet))
@@ -106,11 +117,11 @@ mod tests {
     /// A call that the reading does not know is noticed, and one that the header lacks, and a kind that there is not.
     #[test]
     fn calls_are_the_known_ones() {
-        let text = "lv_a u8:x shown:y out32:z\nlv_b lent:x outsize:y";
+        let text = "lv_a u8:x shown:y out32:z\nlv_b lent:x outsize:y place:z";
         let kinds = |entry: &Entry| entry.buffers().map(|parameter| parameter.kind).collect::<Vec<_>>();
         let table = Table::read(text, &["lv_b", "lv_a"]).expect("the calls are known");
         assert_eq!(kinds(&table.0[0]), [Kind::Shown, Kind::Out(4)]);
-        assert_eq!(kinds(&table.0[1]), [Kind::Lent, Kind::Out(8)]);
+        assert_eq!(kinds(&table.0[1]), [Kind::Lent, Kind::Out(8), Kind::Place]);
         assert!(Table::read(text, &["lv_a"]).is_err());
         assert!(Table::read(text, &["lv_a", "lv_b", "lv_c"]).is_err());
         assert!(Table::read("lv_a u64:x", &["lv_a"]).is_err());

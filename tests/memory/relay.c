@@ -8,7 +8,8 @@
  * server cannot be started, ends, is silent for a minute or gives no good answer, the program ends, with a line on
  * standard error and status 3.
  *
- * What a call may write to is sent first, as it is. Out-parameters are not: the host need not have set them. */
+ * What a call may write to is sent first, as it is. Out-parameters are not: the host need not have set them. For the
+ * place of a fault a number is sent that is none, and the host's is set where another comes back. */
 #define _POSIX_C_SOURCE 200809L
 #include "landing_voice.h"
 
@@ -28,8 +29,8 @@ enum {
 /* The server's size_t has 8 octets, and so has the host's. */
 typedef char size_t_has_8_octets[sizeof(size_t) == 8 ? 1 : -1];
 
-/* Octets that a call reads; octets that it may write to; and its out-parameters. */
-enum kind { SHOWN, LENT, OUT };
+/* Octets that a call reads; octets that it may write to; its out-parameters; and the one that a refusal may set. */
+enum kind { SHOWN, LENT, OUT, PLACE };
 
 struct buffer {
     enum kind kind;
@@ -206,7 +207,7 @@ static void set(void *written, size_t octets, uint64_t number)
     }
 }
 
-/* A refusal changes no out-parameter. */
+/* A refusal changes no out-parameter but the place of the fault. */
 static void get_buffer(const struct buffer *buffer, uint8_t answer)
 {
     uint64_t number;
@@ -221,6 +222,11 @@ static void get_buffer(const struct buffer *buffer, uint8_t answer)
     case OUT:
         number = get_number(buffer->len);
         if (answer == LV_OK)
+            set(buffer->written, buffer->len, number);
+        break;
+    case PLACE:
+        number = get_number(buffer->len);
+        if (number != UINT64_MAX)
             set(buffer->written, buffer->len, number);
         break;
     }
@@ -264,6 +270,14 @@ static struct buffer out_number(void *number, size_t octets)
 {
     static const uint8_t not_set[sizeof(size_t)];
     struct buffer buffer = {OUT, not_set, number, octets};
+    return buffer;
+}
+
+/* The place of a fault; all ones is none. */
+static struct buffer place_number(size_t *place)
+{
+    static const uint8_t none[] = {255, 255, 255, 255, 255, 255, 255, 255};
+    struct buffer buffer = {PLACE, none, place, sizeof *place};
     return buffer;
 }
 

@@ -16,6 +16,7 @@ static uint8_t session[LV_SESSION_OCTETS + 1], holding[LV_HOLDING_OCTETS + 1], j
 static uint8_t dropped[LV_SESSION_OCTETS], later[LV_HOLDING_OCTETS];
 static uint8_t capture[LV_CAPTURE_MAX + 1], recording[LV_RECORDING_MAX + 1], poured[LV_POURED_MAX + 1];
 static uint8_t payload[PAYLOAD];
+static size_t place; /* of a fault; only try_place looks at it */
 
 /* Notes what does not hold. */
 static void holds(int good, const char *what)
@@ -40,7 +41,7 @@ static uint8_t offer(int n, unsigned sequence, size_t *lost)
 {
     longest_payload(n);
     return lv_session_offer(session, LV_SESSION_OCTETS, 7, (uint16_t)sequence, 160u * (uint32_t)n, payload,
-                            sizeof payload, lost);
+                            sizeof payload, lost, &place);
 }
 
 /* Opens the session with maxima, in so many octets. */
@@ -66,8 +67,8 @@ static void try_session(void)
     holds(open_session(LV_DEFAULT_MAX_L, LV_DEFAULT_MAX_B, LV_SESSION_OCTETS) == LV_OK, "the defaults are in range");
     holds(open_session(MAX_L, MAX_B, sizeof session) == LV_OK, "LV_SESSION_OCTETS are enough");
     holds(session[LV_SESSION_OCTETS - 1] == 0 && session[LV_SESSION_OCTETS] == GUARD, "a session is LV_SESSION_OCTETS");
-    holds(lv_session_offer(session, LV_SESSION_OCTETS - 1, 8, 0, 0, payload, 0, &lost) == LV_NOT_APPLICABLE &&
-              lv_session_offer(session, LV_SESSION_OCTETS, 8, 0, 0, payload, 0, &lost) == LV_ANOTHER_SOURCE,
+    holds(lv_session_offer(session, LV_SESSION_OCTETS - 1, 8, 0, 0, payload, 0, &lost, &place) == LV_NOT_APPLICABLE &&
+              lv_session_offer(session, LV_SESSION_OCTETS, 8, 0, 0, payload, 0, &lost, &place) == LV_ANOTHER_SOURCE,
           "fewer octets are no session");
 }
 
@@ -160,12 +161,13 @@ static void try_octets(void)
     uint8_t type = 0, l, n, b, d;
     size_t start = 1, size = 0, written = 0;
 
-    holds(lv_payload_frame(LV_HEADER_FREE, 0, 0, payload, LV_BODY_MAX, 0, &type, &start, &size) == LV_OK &&
+    holds(lv_payload_frame(LV_HEADER_FREE, 0, 0, payload, LV_BODY_MAX, 0, &type, &start, &size, &place) == LV_OK &&
               type == LV_RATE_1 && start == 0 && size == LV_BODY_MAX,
           "the longest body is LV_BODY_MAX octets");
-    holds(lv_payload_read(LV_HEADER_FREE, 0, 0, payload, LV_BODY_MAX + 1, &l, &n, &b, &d) == LV_HEADER_FREE_LENGTH,
+    holds(lv_payload_read(LV_HEADER_FREE, 0, 0, payload, LV_BODY_MAX + 1, &l, &n, &b, &d, &place) ==
+              LV_HEADER_FREE_LENGTH,
           "no body is longer than LV_BODY_MAX");
-    holds(lv_recording_write(payload, 0, recording, sizeof recording, &written) == LV_OK &&
+    holds(lv_recording_write(payload, 0, recording, sizeof recording, &written, &place) == LV_OK &&
               written == LV_OPENING_OCTETS,
           "a recording of nothing is LV_OPENING_OCTETS");
 }
@@ -180,14 +182,34 @@ static void try_types(void)
 
     for (k = 0; k < sizeof types; k++) {
         entry[0] = types[k];
-        holds(lv_recording_write(entry, 1u + sizes[k], recording, sizeof recording, &written) == LV_OK &&
-                  lv_recording_frame(recording, written, 0, &type, &start, &size) == LV_OK && type == types[k] &&
-                  size == sizes[k],
+        holds(lv_recording_write(entry, 1u + sizes[k], recording, sizeof recording, &written, &place) == LV_OK &&
+                  lv_recording_frame(recording, written, 0, &type, &start, &size, &place) == LV_OK &&
+                  type == types[k] && size == sizes[k],
               "each type has its size");
         holds(lv_packet_write(LV_INTERLEAVED, 0, 1, 0, 0, 1, 0, entry, 1u + sizes[k], poured, sizeof poured,
-                              &written) == (k + 1 == sizeof types ? LV_NOT_SENDABLE : LV_OK),
+                              &written, &place) == (k + 1 == sizeof types ? LV_NOT_SENDABLE : LV_OK),
               "all but the last, an erasure, may be sent");
     }
+}
+
+/* LV_OPENING_OCTETS is the place of a recording's first entry; among entries lent it is 0. An accepted call, and a
+ * refusal that has no place, leave it as it was. */
+static void try_place(void)
+{
+    const size_t none = (size_t)-1;
+    uint8_t entry[] = {LV_BLANK};
+    size_t written = 0, count = 0;
+
+    place = none;
+    holds(lv_recording_write(entry, 1, recording, sizeof recording, &written, &place) == LV_OK && place == none,
+          "an accepted call sets no place");
+    holds(lv_recording_read(recording, LV_OPENING_OCTETS - 1, &count, &place) == LV_WRONG_OPENING && place == none,
+          "a wrong opening has no place");
+    entry[0] = recording[LV_OPENING_OCTETS] = LV_RATE_1;
+    holds(lv_recording_read(recording, written, &count, &place) == LV_BODY_CUT && place == LV_OPENING_OCTETS,
+          "the first entry is at LV_OPENING_OCTETS");
+    holds(lv_recording_write(entry, 1, recording, sizeof recording, &written, &place) == LV_BODY_CUT && place == 0,
+          "the first entry lent is at 0");
 }
 
 /* Writes a number of a capture, big-endian, in two octets. */
@@ -205,10 +227,12 @@ static void try_capture(void)
     memset(capture, 0, sizeof capture);
     put_two(0, 1);
     put_two(HEAD, LV_CAPTURE_MAX - HEAD - 2);
-    holds(lv_capture_record(capture, LV_CAPTURE_MAX, recording, sizeof recording, &written) == LV_OK,
+    holds(lv_capture_record(capture, LV_CAPTURE_MAX, recording, sizeof recording, &written) == LV_OK &&
+              lv_capture_answer(capture, LV_CAPTURE_MAX, 0, &written, &place) == LV_OCTETS_LEFT && place == 2,
           "a capture may have LV_CAPTURE_MAX octets");
     put_two(HEAD, LV_CAPTURE_MAX + 1 - HEAD - 2);
-    holds(lv_capture_record(capture, LV_CAPTURE_MAX + 1, recording, sizeof recording, &written) == LV_BAD_CAPTURE,
+    holds(lv_capture_record(capture, LV_CAPTURE_MAX + 1, recording, sizeof recording, &written) == LV_BAD_CAPTURE &&
+              lv_capture_answer(capture, LV_CAPTURE_MAX + 1, 0, &written, &place) == LV_BAD_CAPTURE,
           "a capture has at most LV_CAPTURE_MAX octets");
     memset(capture, 0, sizeof capture);
     for (count = LV_CAPTURE_PACKETS_MAX; count <= LV_CAPTURE_PACKETS_MAX + 1; count++) {
@@ -219,11 +243,12 @@ static void try_capture(void)
     }
 }
 
-/* LV_RECORDING_MAX: every packet begins a group of the greatest L and B, 100 packets behind the one before it. */
+/* LV_RECORDING_MAX, and LV_LOST_MAX again: every packet begins a group of the greatest L and B, 100 packets behind the
+ * one before it. */
 static void try_recording(void)
 {
     size_t table = 2 + HEAD * LV_CAPTURE_PACKETS_MAX, len = table + PAYLOAD * LV_CAPTURE_PACKETS_MAX;
-    size_t written = 0, i;
+    size_t written = 0, lost = 0, i;
 
     memset(capture, 0, sizeof capture);
     put_two(0, LV_CAPTURE_PACKETS_MAX);
@@ -237,6 +262,10 @@ static void try_recording(void)
               lv_capture_record(capture, len, recording, LV_RECORDING_MAX, &written) == LV_OK &&
               written == LV_RECORDING_MAX,
           "the longest recording of a capture is LV_RECORDING_MAX octets");
+    holds(lv_capture_answer(capture, len, LV_CAPTURE_PACKETS_MAX - 1, &lost, &place) == LV_OK && lost == LV_LOST_MAX,
+          "at most LV_LOST_MAX frames are lost before a packet of a capture");
+    holds(lv_capture_answer(capture, len, LV_CAPTURE_PACKETS_MAX, &lost, &place) == LV_NOT_APPLICABLE,
+          "there is no packet LV_CAPTURE_PACKETS_MAX");
 }
 
 /* How often a number is an answer: 0 or 1. */
@@ -286,6 +315,7 @@ int main(void)
     try_lost_between();
     try_octets();
     try_types();
+    try_place();
     try_capture();
     try_recording();
     try_texts();

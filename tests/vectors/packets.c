@@ -9,25 +9,26 @@ enum { FORM, MAX_L, MAX_B, L, N, B, D, NUMBERS };
 
 /* Makes the call of the line's form. */
 static uint8_t write_one(const uint8_t *at, const uint8_t *entries, size_t len, uint8_t *out, size_t room,
-                         size_t *written)
+                         size_t *written, size_t *place)
 {
     if (at[FORM] == LV_HEADER_FREE)
-        return lv_packet_write_header_free(at[FORM], at[MAX_L], at[MAX_B], entries, len, out, room, written);
+        return lv_packet_write_header_free(at[FORM], at[MAX_L], at[MAX_B], entries, len, out, room, written, place);
     return lv_packet_write(at[FORM], at[MAX_L], at[MAX_B], at[L], at[N], at[B], at[D], entries, len, out, room,
-                           written);
+                           written, place);
 }
 
 /* See vectors.h. */
 int vector(const char *name)
 {
     static uint8_t out[HEX_OCTETS];
-    uint8_t at[NUMBERS];
+    uint8_t at[NUMBERS], answer;
     const uint8_t *entries;
-    size_t len, room, written;
+    size_t len, room, written, place = NOWHERE;
 
     if (!vector_numbers(at, NUMBERS) || !vector_room(&room) || !vector_octets(&entries, &len))
         return 0;
-    if (!vector_refused(name, write_one(at, entries, len, out, room, &written)))
+    answer = write_one(at, entries, len, out, room, &written, &place);
+    if (!vector_refused(name, answer, place))
         hex_line(name, out, written);
     return 1;
 }

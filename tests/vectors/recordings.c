@@ -12,21 +12,35 @@
 static void print_frames(const char *name, const uint8_t *recording, size_t len, size_t count)
 {
     uint8_t type, answer;
-    size_t start, size, k = 0;
+    size_t start, size, place = NOWHERE, k = 0;
 
-    while ((answer = lv_recording_frame(recording, len, k, &type, &start, &size)) == LV_OK)
+    while ((answer = lv_recording_frame(recording, len, k, &type, &start, &size, &place)) == LV_OK)
         vector_frame(k++, type, recording, start, size);
-    if (answer != LV_NOT_APPLICABLE || k != count)
+    if (answer != LV_NOT_APPLICABLE || place != NOWHERE || k != count)
         printf("%s: frame %lu of %lu: refused %u\n", name, (unsigned long)k, (unsigned long)count, (unsigned)answer);
+}
+
+/* Prints why a recording cannot be read; that each frame of it is refused likewise. */
+static void print_refusal(const char *name, const uint8_t *recording, size_t len, uint8_t answer, size_t place)
+{
+    uint8_t type;
+    size_t start, size, again = NOWHERE;
+
+    vector_refused(name, answer, place);
+    if (lv_recording_frame(recording, len, 0, &type, &start, &size, &again) != answer || again != place)
+        printf("%s: its frames are refused otherwise\n", name);
 }
 
 /* Reads one recording. */
 static void read_one(const char *name, const uint8_t *recording, size_t len)
 {
-    size_t count;
+    size_t count, place = NOWHERE;
+    uint8_t answer = lv_recording_read(recording, len, &count, &place);
 
-    if (vector_refused(name, lv_recording_read(recording, len, &count)))
+    if (answer != LV_OK || place != NOWHERE) {
+        print_refusal(name, recording, len, answer, place);
         return;
+    }
     printf("%s: %lu frames\n", name, (unsigned long)count);
     print_frames(name, recording, len, count);
 }
@@ -35,9 +49,10 @@ static void read_one(const char *name, const uint8_t *recording, size_t len)
 static void write_one(const char *name, const uint8_t *entries, size_t len, size_t room)
 {
     static uint8_t out[HEX_OCTETS];
-    size_t written;
+    size_t written, place = NOWHERE;
+    uint8_t answer = lv_recording_write(entries, len, out, room, &written, &place);
 
-    if (!vector_refused(name, lv_recording_write(entries, len, out, room, &written)))
+    if (!vector_refused(name, answer, place))
         hex_line(name, out, written);
 }
 

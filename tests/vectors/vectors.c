@@ -43,11 +43,15 @@ int vector_octets(const uint8_t **octets, size_t *len)
 }
 
 /* See vectors.h. */
-int vector_refused(const char *name, uint8_t answer)
+int vector_refused(const char *name, uint8_t answer, size_t place)
 {
-    if (answer != LV_OK)
-        printf("%s: refused %u\n", name, (unsigned)answer);
-    return answer != LV_OK;
+    if (answer == LV_OK && place == NOWHERE)
+        return 0;
+    printf("%s: refused %u", name, (unsigned)answer);
+    if (place != NOWHERE)
+        printf(" at %lu", (unsigned long)place);
+    printf("\n");
+    return 1;
 }
 
 /* See vectors.h. */

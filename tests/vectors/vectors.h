@@ -20,8 +20,11 @@ int vector_numbers(uint8_t *numbers, int count);
 int vector_room(size_t *room);
 int vector_octets(const uint8_t **octets, size_t *len);
 
-/* Prints a refusal by its number; says whether it was one. */
-int vector_refused(const char *name, uint8_t answer);
+/* What a place is before a call. A refusal that has a place changes it, and nothing else does. */
+#define NOWHERE ((size_t)-1)
+
+/* Prints a refusal by its number, and where the fault is; says whether it was one. */
+int vector_refused(const char *name, uint8_t answer, size_t place);
 
 /* Prints frame k of octets: its type, and its body. */
 void vector_frame(size_t k, uint8_t type, const uint8_t *octets, size_t start, size_t size);

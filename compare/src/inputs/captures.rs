@@ -1,4 +1,4 @@
-//! Captures to record: talks that were heard well or badly, and bad captures.
+//! Captures to record, and their packets' answers: talks that were heard well or badly, and bad captures.
 
 use super::octets::{any, damage, likely, neighbours};
 use super::talk::{change, Packet, Talk};
@@ -10,6 +10,9 @@ use crate::rng::Rng;
 /// The most packets and octets of a capture.
 const PACKETS: usize = 256;
 const OCTETS: usize = 65_536;
+
+/// So many packets are few: each is asked about.
+const FEW: u16 = 40;
 
 /// The octets of a packet's numbers in the table, and where its length stands among them.
 const ROW: usize = 12;
@@ -168,13 +171,31 @@ fn recorded(maker: &mut Maker, capture: Vec<u8>) -> Vec<Call> {
     vec![record(needed), record(other)]
 }
 
-/// A capture recorded.
-pub fn seeded(maker: &mut Maker) -> Vec<Call> {
-    let capture = if maker.rng.one_in(60) { big(maker.rng) } else { small(maker.rng) };
-    recorded(maker, capture)
+/// Calls that ask what packets of a capture were answered: those at the ends and past them, and if they are few, each.
+fn answered(maker: &mut Maker, capture: &[u8]) -> Vec<Call> {
+    if capture::recorded(capture).is_none() {
+        let i = maker.rng.pick(&[0, 0, 1, 255, u64::MAX]);
+        return vec![maker.call("lv_capture_answer", &[i], vec![capture.to_vec()])];
+    }
+    let count = u16::from_be_bytes([capture[0], capture[1]]);
+    let mut calls = maker.asked("lv_capture_answer", &[], capture, count.into());
+    if count <= FEW {
+        let each = |i: u16| maker.call("lv_capture_answer", &[i.into()], vec![capture.to_vec()]);
+        calls.extend((0..count).map(each));
+    }
+    calls
 }
 
-/// Families: the shortest captures, every neighbour of some small ones, and the one with the largest recording.
+/// A capture recorded, and what its packets were answered.
+pub fn seeded(maker: &mut Maker) -> Vec<Call> {
+    let capture = if maker.rng.one_in(60) { big(maker.rng) } else { small(maker.rng) };
+    let mut calls = answered(maker, &capture);
+    calls.extend(recorded(maker, capture));
+    calls
+}
+
+/// Families: the shortest captures, every neighbour of some small ones, and the one with the largest recording. Of each
+/// one packet's answer is asked.
 pub fn families(maker: &mut Maker) -> Vec<Call> {
     let mut captures = vec![octets(&largest(maker.rng)), Vec::new()];
     captures.extend((0..=255).map(|octet| vec![octet]));
@@ -185,5 +206,11 @@ pub fn families(maker: &mut Maker) -> Vec<Call> {
             captures.extend(neighbours(maker.rng, &good));
         }
     }
-    captures.into_iter().flat_map(|capture| recorded(maker, capture).into_iter().take(1).collect::<Vec<_>>()).collect()
+    let mut calls = Vec::new();
+    for capture in captures {
+        let mut answers = answered(maker, &capture);
+        calls.push(answers.swap_remove(maker.rng.between(0, answers.len() - 1)));
+        calls.extend(recorded(maker, capture).into_iter().take(1));
+    }
+    calls
 }

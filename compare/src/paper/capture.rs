@@ -1,6 +1,6 @@
-//! Captures (document 01, "Capture program").
+//! Captures (document 01, "Capture program"), and what their packets were answered (document 02, (i)).
 
-use super::answers::{fitting, Answer};
+use super::answers::{fitting, refusal, Answer};
 use super::form::{Form, Limits, MOST_B, MOST_L};
 use super::frames::FrameType;
 use super::recordings::OPENING;
@@ -15,18 +15,29 @@ const LIMITS: Limits = Limits { max_l: MOST_L, max_b: MOST_B };
 
 /// The recording of a capture, into so much room: 255 for a bad capture, then 15.
 pub fn record(capture: &[u8], room: usize) -> Answer<Vec<u8>> {
-    fitting(recorded(capture).ok_or(255)?, room)
+    fitting(recorded(capture).ok_or(refusal(255))?, room)
 }
 
-/// The recording, unless the capture is bad. "Any other refusal skips the packet; at the end it pours what is held."
+/// The recording, unless the capture is bad.
 pub fn recorded(capture: &[u8]) -> Option<Vec<u8>> {
+    run(capture).map(|(_, recording)| recording)
+}
+
+/// What packet i was answered in the run that makes the recording, the lost frames if it was accepted: 255 for a bad
+/// capture, then 21 if there is no packet i.
+pub fn answer(capture: &[u8], i: usize) -> Answer<u32> {
+    let (answers, _) = run(capture).ok_or(refusal(255))?;
+    answers.get(i).copied().unwrap_or(Err(refusal(21)))
+}
+
+/// What each packet was answered, and the recording, unless the capture is bad. "Any other refusal skips the packet; at
+/// the end it pours what is held."
+fn run(capture: &[u8]) -> Option<(Vec<Answer<u32>>, Vec<u8>)> {
     let packets = packets(capture)?;
     let mut recorder = Recorder::opened(&packets);
-    for packet in &packets {
-        recorder.take(packet).ok();
-    }
+    let answers = packets.iter().map(|packet| recorder.take(packet)).collect();
     recorder.pour();
-    Some(recorder.recording)
+    Some((answers, recorder.recording))
 }
 
 /// The packets of a capture, unless it is bad: the count, "then its table, [...] then all payloads in table order,
@@ -91,9 +102,9 @@ impl Recorder {
     }
 
     /// "On 12 it pours and offers again." The answer is that to the last offer.
-    fn take(&mut self, packet: &Packet) -> Answer<()> {
+    fn take(&mut self, packet: &Packet) -> Answer<u32> {
         let answer = self.offer(packet);
-        if answer != Err(12) {
+        if answer != Err(refusal(12)) {
             return answer;
         }
         self.pour();
@@ -101,10 +112,10 @@ impl Recorder {
     }
 
     /// Offers a packet: "reported lost frames become entries 0E".
-    fn offer(&mut self, packet: &Packet) -> Answer<()> {
+    fn offer(&mut self, packet: &Packet) -> Answer<u32> {
         let lost = self.session.offer(packet)?;
         self.recording.extend((0..lost).map(|_| FrameType::Erasure.number()));
-        Ok(())
+        Ok(lost)
     }
 
     /// Pours the group that is held, if one is.

@@ -1,6 +1,6 @@
 //! The agreed form (document 01, "Payloads").
 
-use super::answers::{refuse, Answer};
+use super::answers::{refusal, refuse, Answer};
 
 /// "L at most 0 to 7, B at most 1 to 10."
 pub const MOST_L: u8 = 7;
@@ -45,7 +45,7 @@ impl Form {
         match form {
             0 => Ok(Form::HeaderFree),
             1 => limits.checked().map(Form::Interleaved),
-            _ => Err(21),
+            _ => Err(refusal(21)),
         }
     }
 }

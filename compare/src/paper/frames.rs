@@ -1,6 +1,6 @@
 //! Frame types and their bodies (document 01, "Frames"), and frames as a reader gives them ("Payloads").
 
-use super::answers::Answer;
+use super::answers::{refusal, Answer};
 
 /// "EVRC types", by their numbers; "all others are reserved".
 #[derive(Clone, Copy, Debug, PartialEq, Eq)]
@@ -25,14 +25,14 @@ impl FrameType {
         TABLE.into_iter().find(|kind| kind.number() == number)
     }
 
-    /// The type of an entry, F x 128 + D x 64 + type; 5 if it is reserved.
-    pub fn of_entry(octet: u8) -> Answer<FrameType> {
-        FrameType::numbered(octet % 64).ok_or(5)
+    /// The type of an entry, F x 128 + D x 64 + type, unless it is reserved.
+    pub fn of_entry(octet: u8) -> Option<FrameType> {
+        FrameType::numbered(octet % 64)
     }
 
     /// The type that is "known by the length" of a body: "2, 10 or 22. Any other length, 0 too, is refused", 9.
     pub fn of_length(length: usize) -> Answer<FrameType> {
-        TABLE.into_iter().find(|kind| length > 0 && kind.body() == length).ok_or(9)
+        TABLE.into_iter().find(|kind| length > 0 && kind.body() == length).ok_or(refusal(9))
     }
 
     /// Its number.
@@ -91,5 +91,5 @@ impl Frame {
 
 /// "A frame is asked for by its number; one not below the frame count answers 21."
 pub fn asked(frames: &[Frame], k: usize) -> Answer<Frame> {
-    frames.get(k).copied().ok_or(21)
+    frames.get(k).copied().ok_or(refusal(21))
 }

@@ -2,7 +2,7 @@
 //!
 //! A holding here has at least one packet. What "counts as holding no packet" is no holding at all: `None`.
 
-use super::answers::{fitting, refuse, Answer};
+use super::answers::{fitting, refusal, refuse, Answer};
 use super::form::MOST_L;
 use super::frames::FrameType;
 use super::groups::{place, places, Group};
@@ -65,13 +65,13 @@ impl Holding {
 
 /// "Any holding, joined or not, is poured by the same rule: 21 if it holds no packet, then 15."
 pub fn pour(holding: Option<&Holding>, room: usize) -> Answer<Vec<u8>> {
-    fitting(holding.ok_or(21)?.entries(), room)
+    fitting(holding.ok_or(refusal(21))?.entries(), room)
 }
 
 /// What a holding is: "source, base sequence number, base timestamp, L, B, which packets are held". Bit N of the last is
 /// 1 if packet N is held. 21 if it holds no packet.
 pub fn read(holding: Option<Holding>) -> Answer<(Group, u8)> {
-    let Holding { group, packets } = holding.ok_or(21)?;
+    let Holding { group, packets } = holding.ok_or(refusal(21))?;
     let held = packets.iter().zip(0..).filter(|(packet, _)| packet.is_some());
     Ok((group, held.map(|(_, n)| 1_u8 << n).sum()))
 }
@@ -79,7 +79,7 @@ pub fn read(holding: Option<Holding>) -> Answer<(Group, u8)> {
 /// "Joining two holdings: 21 if either holds no packet; 20 if source, bases, L or B differ; 14 if a packet held in both
 /// differs; else every packet held in either."
 pub fn join(a: Option<Holding>, b: Option<Holding>) -> Answer<Holding> {
-    let (mut joined, other) = (a.ok_or(21)?, b.ok_or(21)?);
+    let (mut joined, other) = (a.ok_or(refusal(21))?, b.ok_or(refusal(21))?);
     refuse(20, joined.group != other.group)?;
     for (n, packet) in other.packets.iter().enumerate() {
         packet.iter().try_for_each(|packet| joined.put_in(n, packet))?;

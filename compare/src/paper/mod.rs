@@ -1,9 +1,10 @@
-//! Document 01, read anew: what the landing voice library ought to answer. Nothing here comes from the library.
+//! Document 01, with (i) of document 02, read anew: what the landing voice library ought to answer. Nothing here comes
+//! from the library.
 //!
-//! A module takes a section of the document, in its words; a refusal is its number. Each stands only on those above it:
+//! A module takes a section of the document, in its words. Each stands only on those above it:
 //!
 //! ```text
-//! answers      "Answers by number"    refusals, and 15
+//! answers      "Answers by number"    refusals, their places, and 15
 //! frames       "Frames"               types, bodies, what is sendable
 //! form         "Payloads"             the agreed form and its maxima
 //! payload      "Payloads"             reading payloads

@@ -1,6 +1,6 @@
 //! Writing packets (document 01, "Writing packets").
 
-use super::answers::{fitting, refuse, Answer};
+use super::answers::{fitting, refusal, refuse, Answer};
 use super::entries::walk;
 use super::frames::{Frame, FrameType};
 use super::groups::{place, places};
@@ -20,7 +20,7 @@ pub struct Numbers {
 /// input is walked [...]; then 15." Maxima out of range do not come here: see `Form::agreed`.
 pub fn write(form: Form, numbers: Numbers, entries: &[u8], room: usize) -> Answer<Vec<u8>> {
     let Numbers { l, n, b, d } = numbers;
-    let Form::Interleaved(limits) = form else { return Err(21) };
+    let Form::Interleaved(limits) = form else { return Err(refusal(21)) };
     refuse(21, d > 1)?;
     limits.judge(l, n)?;
     refuse(6, b == 0 || b > limits.max_b)?;

@@ -1,6 +1,6 @@
 //! Sessions (document 01, "Session").
 
-use super::answers::{refuse, Answer};
+use super::answers::{refusal, refuse, Answer};
 use super::frames::Frame;
 use super::groups::{self, Base, Group};
 use super::holding::{self, HeldFrame, HeldPacket, Holding};
@@ -56,7 +56,7 @@ impl Session {
     /// "Offering a packet checks in this order: open session (21), source (10), payload (1 to 9), place. Every refused
     /// offer leaves the session as it was." The answer is the number of lost frames.
     pub fn offer(&mut self, packet: &Packet) -> Answer<u32> {
-        let Open { source, form } = self.open.ok_or(21)?;
+        let Open { source, form } = self.open.ok_or(refusal(21))?;
         refuse(10, packet.source != source)?;
         let heard = Heard::read(form, packet)?;
         match &mut self.held {
@@ -95,7 +95,7 @@ impl Session {
 
     /// "A session's holding can be copied out (21 likewise)."
     pub fn copy(&self) -> Answer<Holding> {
-        self.open.and(self.held.clone()).ok_or(21)
+        self.open.and(self.held.clone()).ok_or(refusal(21))
     }
 }
 
@@ -130,9 +130,9 @@ impl Heard {
 pub fn judge_d(d: u16, l: u8) -> Answer<()> {
     match d {
         0 => Ok(()),
-        d if d <= l.into() => Err(11),
-        d if d < 32_768 => Err(12),
-        _ => Err(13),
+        d if d <= l.into() => Err(refusal(11)),
+        d if d < 32_768 => Err(refusal(12)),
+        _ => Err(refusal(13)),
     }
 }
 
@@ -145,7 +145,7 @@ pub fn judge_e(e: u16) -> Answer<()> {
 /// The lost frames between two holdings' groups: 21 if either holds no packet, 10 if their sources differ, then "by the
 /// rule of a session that poured" the first.
 pub fn lost(before: Option<Holding>, after: Option<Holding>) -> Answer<u32> {
-    let (before, after) = (before.ok_or(21)?.group, after.ok_or(21)?.group);
+    let (before, after) = (before.ok_or(refusal(21))?.group, after.ok_or(refusal(21))?.group);
     refuse(10, after.source != before.source)?;
     lost_between(&Last::of(before), &after)
 }

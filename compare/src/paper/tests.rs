@@ -1,12 +1,13 @@
-//! The marked examples P1 to P15 of document 01, the edges of d and e, and a call of another shape.
+//! The marked examples P1 to P15 of document 01, the places of document 02, the edges of d and e, and a call of
+//! another shape.
 
-use super::answers::Answer;
+use super::answers::{refusal, Answer};
 use super::form::{Form, Limits};
 use super::groups::{d, e, Base};
 use super::holding::{self, Holding};
 use super::host::make;
 use super::session::{judge_d, judge_e, lost, Packet, Session};
-use super::{capture, payload};
+use super::{capture, packets, payload, recordings};
 use crate::call::Call;
 
 /// "Maxima 5 and 10 unless named."
@@ -31,6 +32,11 @@ fn hex(text: &str) -> Vec<u8> {
 /// The recording of these entries.
 fn recording(entries: &str) -> Option<Vec<u8>> {
     Some(hex(&format!("23 21 45 56 52 43 0A {entries}")))
+}
+
+/// The number of an answer.
+fn number(answer: Answer<()>) -> u8 {
+    answer.err().map_or(0, |refusal| refusal.number)
 }
 
 /// What the interleaved reader answers: L, N, and where the bodies begin.
@@ -60,12 +66,50 @@ fn heard(packet: Sent) -> Option<Holding> {
 fn p1_to_p10_payloads() {
     assert_eq!(read(DEFAULT, FIRST.2), Ok((1, 0, vec![3, 5])));
     let ten = format!("00 {} 01", ["81"; 10].join(" "));
-    let refused = [("", 1), ("0A", 2), ("30", 3), ("00 81", 4), ("00 02", 5), (&ten, 6)];
-    for (payload, answer) in refused.into_iter().chain([("00 01 11", 7), ("00 01 11 11 00", 8)]) {
-        assert_eq!(read(DEFAULT, payload), Err(answer), "{payload}");
+    for (payload, number) in [("", 1), ("0A", 2), ("30", 3)] {
+        assert_eq!(read(DEFAULT, payload), Err(refusal(number)), "{payload}");
     }
-    assert_eq!(read(Limits { max_l: 6, ..DEFAULT }, "30"), Err(4));
+    for (payload, number, place) in
+        [("00 81", 4, 2), ("00 02", 5, 1), (&ten, 6, 11), ("00 01 11", 7, 2), ("00 01 11 11 00", 8, 4)]
+    {
+        assert_eq!(read(DEFAULT, payload), Err(refusal(number).at(place)), "{payload}");
+    }
+    assert_eq!(read(Limits { max_l: 6, ..DEFAULT }, "30"), Err(refusal(4).at(1)));
     assert_eq!(read(DEFAULT, "C0 00"), Ok((0, 0, vec![2])));
+}
+
+/// "The place of the first body that doesn't fit whole", though it be the payload's length; empty bodies always fit.
+#[test]
+fn a_payload_has_the_place_of_its_fault() {
+    let places = [
+        ("00", 4, 1),
+        ("00 81 82 01", 5, 2),
+        ("00 01", 7, 2),
+        ("00 81 01 11 11", 7, 5),
+        ("00 80 81 8E 03 AA AA", 7, 7),
+        ("00 84 04 00 00", 7, 3),
+        ("00 8E 80 0E 00", 8, 4),
+    ];
+    for (payload, number, place) in places {
+        assert_eq!(read(DEFAULT, payload), Err(refusal(number).at(place)), "{payload}");
+    }
+    assert_eq!(read(Limits { max_b: 1, ..DEFAULT }, "00 80 02"), Err(refusal(6).at(2)));
+}
+
+/// In a recording the opening counts, and in entries that are lent to a writer the first is at 0. "Place of the entry
+/// octet", also for a body that is cut.
+#[test]
+fn entries_have_the_place_of_their_fault() {
+    for (entries, number, place) in [("02", 5, 0), ("01 11 11 3F", 5, 3), ("00 03 33", 19, 1), ("01", 19, 0)] {
+        let fault = |before: usize| Some(refusal(number).at(before + place));
+        let octets = recording(entries).expect("octets");
+        assert_eq!(recordings::read(&octets).err(), fault(7), "{entries}");
+        assert_eq!(recordings::write(&hex(entries), 99).err(), fault(0), "{entries}");
+        let numbers = packets::Numbers { l: 0, n: 0, b: 1, d: 0 };
+        assert_eq!(packets::write(Form::Interleaved(DEFAULT), numbers, &hex(entries), 99).err(), fault(0), "{entries}");
+    }
+    assert_eq!(packets::write_header_free(Form::HeaderFree, &hex("01 11 11 02"), 99), Err(refusal(5).at(3)));
+    assert_eq!(packets::write_header_free(Form::HeaderFree, &hex("0E 02"), 99), Err(refusal(17)));
 }
 
 #[test]
@@ -73,9 +117,9 @@ fn p11_the_whole_case() {
     for order in [[FIRST, SECOND], [SECOND, FIRST]] {
         let mut session = opened();
         assert_eq!(order.map(|packet| offer(&mut session, packet)), [Ok(0); 2]);
-        assert_eq!(session.pour(11), Err(15));
+        assert_eq!(session.pour(11), Err(refusal(15)));
         assert_eq!(session.pour(12), Ok(hex(POURED)));
-        assert_eq!(session.pour(12), Err(21));
+        assert_eq!(session.pour(12), Err(refusal(21)));
     }
 }
 
@@ -83,13 +127,28 @@ fn p11_the_whole_case() {
 fn p11_as_a_capture() {
     let octets = hex(CAPTURE);
     assert_eq!(capture::recorded(&octets), recording(POURED));
-    assert_eq!(capture::record(&octets, 18), Err(15));
+    assert_eq!(capture::record(&octets, 18), Err(refusal(15)));
     assert_eq!(capture::record(&octets, 19).ok(), recording(POURED));
     for cut in 0..octets.len() {
-        assert_eq!(capture::record(&octets[..cut], 0), Err(255), "cut to {cut}");
+        assert_eq!(capture::record(&octets[..cut], 0), Err(refusal(255)), "cut to {cut}");
     }
     assert_eq!(capture::recorded(&[&octets[..], &[0]].concat()), None);
     assert_eq!(capture::recorded(&[0, 0]), recording(""));
+}
+
+/// The answer is that to the last offer: 12 is never told.
+#[test]
+fn a_capture_tells_what_its_packets_were_answered() {
+    // Base 0001, L 0, B 1: the packet, a repeat, a later group's behind a packet lost, another source's, one of a
+    // reserved type, a later group's too far ahead, and an earlier one's.
+    let rows = ["07 00 01", "07 00 01", "07 00 03", "08 00 04", "07 00 04", "07 00 AA", "07 00 02"];
+    let rows: String = rows.map(|row| format!("00 00 00 {row} 00 00 00 00 00 02 ")).concat();
+    let octets = hex(&format!("00 07 {rows} 00 00 00 00 00 00 00 00 00 02 00 00 00 00"));
+    let answers: Vec<_> = (0..8).map(|i| capture::answer(&octets, i)).collect();
+    let refusals = [refusal(10), refusal(5).at(1), refusal(16), refusal(13), refusal(21)];
+    assert_eq!(answers[..3], [Ok(0), Ok(0), Ok(1)]);
+    assert_eq!(answers[3..], refusals.map(Err));
+    assert_eq!(capture::answer(&octets[1..], 0), Err(refusal(255)));
 }
 
 #[test]
@@ -111,7 +170,7 @@ fn p14_header_free() {
     let read = |length| payload::read(Form::HeaderFree, &vec![0xFF; length]);
     let kind = |length| read(length).map(|read| read.frames[0].kind.number());
     let answers = [22, 10, 2, 0, 5, 23].map(kind);
-    assert_eq!(answers, [Ok(4), Ok(3), Ok(1), Err(9), Err(9), Err(9)]);
+    assert_eq!(answers, [Ok(4), Ok(3), Ok(1), Err(refusal(9)), Err(refusal(9)), Err(refusal(9))]);
 }
 
 #[test]
@@ -119,7 +178,7 @@ fn p15_distances_from_base_ffff() {
     let mut session = opened();
     assert_eq!(offer(&mut session, FIRST), Ok(0));
     for (sequence, answer) in [(0x0001, 12), (0x0000, 11), (0xFFFE, 13)] {
-        assert_eq!(offer(&mut session, (sequence, 0, "00 00")), Err(answer));
+        assert_eq!(offer(&mut session, (sequence, 0, "00 00")), Err(refusal(answer)));
     }
 }
 
@@ -129,12 +188,12 @@ fn edges_of_d_and_e() {
     let of_d = [(0, 0), (1, 11), (5, 11), (6, 12), (32_767, 12), (32_768, 13), (65_535, 13)];
     let of_e = [(0, 0), (100, 0), (101, 16), (32_767, 16), (32_768, 13), (65_535, 13)];
     for b in [0, 1, 0x7FFF, 0x8000, 0xFFFA, 0xFFFF_u16] {
-        let by_d = |far| judge_d(d(b.wrapping_add(far), b), 5).err().unwrap_or(0);
-        let by_e = |far| judge_e(e(b.wrapping_add(6).wrapping_add(far), b, 5)).err().unwrap_or(0);
+        let by_d = |far| number(judge_d(d(b.wrapping_add(far), b), 5));
+        let by_e = |far| number(judge_e(e(b.wrapping_add(6).wrapping_add(far), b, 5)));
         of_d.iter().for_each(|&(far, answer)| assert_eq!(by_d(far), answer, "d = {far}"));
         of_e.iter().for_each(|&(far, answer)| assert_eq!(by_e(far), answer, "e = {far}"));
     }
-    assert_eq!(judge_d(1, 0), Err(12));
+    assert_eq!(judge_d(1, 0), Err(refusal(12)));
 }
 
 #[test]
@@ -143,7 +202,7 @@ fn lost_frames_count_by_the_poured_bundle() {
         let mut session = opened();
         assert_eq!(offer(&mut session, FIRST), Ok(0));
         assert_eq!(session.pour(200).map(|octets| octets.len()), Ok(8));
-        let lost = if e > 100 { Err(16) } else { Ok(2 * u32::from(e)) };
+        let lost = if e > 100 { Err(refusal(16)) } else { Ok(2 * u32::from(e)) };
         assert_eq!(offer(&mut session, (0x0001 + e, 0, "00 80 80 00")), lost, "e = {e}");
     }
 }
@@ -155,7 +214,7 @@ fn two_boxes_have_the_whole_case() {
     assert_eq!(joined, holding::join(b, a.clone()));
     assert_eq!(holding::pour(joined.ok().as_ref(), 12), Ok(hex(POURED)));
     assert_eq!(holding::join(a.clone(), a.clone()).ok(), a);
-    assert_eq!(holding::join(a, None), Err(21));
+    assert_eq!(holding::join(a, None), Err(refusal(21)));
 }
 
 #[test]
@@ -165,7 +224,7 @@ fn a_holding_tells_its_group_and_packets() {
     let (group, held) = holding::read(a).expect("a packet is held");
     assert_eq!((group.source, group.base, group.l, group.b), (7, Base::of(0, 0, 1), 1, 2));
     assert_eq!((held, holding::read(b), holding::read(joined)), (1, Ok((group, 2)), Ok((group, 3))));
-    assert_eq!(holding::read(None), Err(21));
+    assert_eq!(holding::read(None), Err(refusal(21)));
 }
 
 /// "The session is then as after pouring", and what is lost between two holdings is what it reports.
@@ -173,16 +232,16 @@ fn a_holding_tells_its_group_and_packets() {
 fn a_dropped_group_counts_as_a_poured_one() {
     for e in (0..=101).chain([32_767, 32_768, 65_535]) {
         let mut session = opened();
-        assert_eq!(session.drop_group(), Err(21));
+        assert_eq!(session.drop_group(), Err(refusal(21)));
         assert_eq!(offer(&mut session, FIRST), Ok(0));
         let mut poured = session.clone();
         assert_eq!(poured.pour(200).map(|octets| octets.len()), Ok(8));
-        assert_eq!((session.drop_group(), session.drop_group()), (Ok(()), Err(21)));
+        assert_eq!((session.drop_group(), session.drop_group()), (Ok(()), Err(refusal(21))));
         assert_eq!(session, poured);
         let later = (0x0001_u16.wrapping_add(e), 0, "00 80 80 00");
         assert_eq!(offer(&mut session, later), lost(heard(FIRST), heard(later)), "e = {e}");
     }
-    assert_eq!((lost(None, heard(FIRST)), lost(heard(FIRST), None)), (Err(21), Err(21)));
+    assert_eq!((lost(None, heard(FIRST)), lost(heard(FIRST), None)), (Err(refusal(21)), Err(refusal(21))));
 }
 
 /// "Frame k of packet N stands at time place k x (L + 1) + N": in the greatest group, its place as its body.
@@ -197,7 +256,7 @@ fn the_greatest_group_is_poured_in_time_order() {
         assert_eq!(session.offer(&Packet { source: 7, sequence, timestamp, payload }), Ok(0));
     }
     let entry = |place| [&[4][..], &[place; 22]].concat();
-    assert_eq!(session.pour(1839), Err(15));
+    assert_eq!(session.pour(1839), Err(refusal(15)));
     assert_eq!(session.pour(1840), Ok((0..80).flat_map(entry).collect()));
 }
 

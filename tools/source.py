@@ -21,7 +21,7 @@ def read(path):
 def functions(source):
     """Of a file of Rattle: the name, the extent and the text of the body of each function, a method as TYPE::NAME."""
     found, kind = [], None
-    for m in re.finditer(r'^impl (\w+)|^( *)(?:pub )?(?:extern "C" )?fn (\w+)', source, re.M):
+    for m in re.finditer(r'^impl (\w+)|^( *)(?:pub(?:\(crate\))? )?(?:extern "C" )?fn (\w+)', source, re.M):
         if m.group(1):
             kind = m.group(1)
             continue
@@ -38,22 +38,13 @@ def sources():
         yield path.split(os.sep)[-3], os.path.relpath(path, ROOT), read(path)
 
 
-def programs():
-    """The programs and what only they use: the crates that read or write, of which no contract can tell."""
-    lines = [line.split("#")[0].partition(":") for line in read("crates.txt").splitlines()]
-    return {name.strip() for name, _, below in lines if "io" in below.split()}
-
-
 def calls():
-    """Of each function: its crate, its name, whether it is public, whether internal, its contract and its body. A program
-    has no public one."""
-    apart = programs()
+    """Of each function: its crate, its name, whether it is public, whether internal, its contract and its body."""
     for crate, _, source in sources():
         for name, start, end, body in functions(source):
             head = source[start:end - len(body)]
             above = re.search(r"(?:^ *(?://|#\[).*\n)*\Z", source[:start], re.M).group(0)
-            public = head.lstrip().startswith("pub ") and crate not in apart
-            yield crate, name, public, "// internal:" in above, head, body
+            yield crate, name, head.lstrip().startswith("pub "), "// internal:" in above, head, body
 
 
 def statements():

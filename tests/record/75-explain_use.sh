@@ -17,11 +17,13 @@ says 2 'record: tmp: is a folder' "$record" --explain tmp
 says 2 'record: standard input: cannot be read' "$record" --explain </
 says 0 '' "$record" --help && grep -q '^  --explain  ' out || wrong '--help is silent about --explain'
 
-# A bad capture, also one that is too long, and from standard input.
+# A bad capture, also one that is too long, and from standard input: the recorder tells why.
 says 1 "record: $bad: bad capture: its count is 257, and the most is 256 packets" "$record" --explain "$bad"
 printf 'bad capture\n' | cmp - out || wrong 'a bad capture is not told on standard output'
 head -c 65537 /dev/zero >long
 says 1 'record: standard input: bad capture: it has more than 65536 octets' "$record" --explain <long
+says 1 'record: standard input: bad capture: .* 26 octets, and it has 2' "$record" --explain < <(printf '\0\2')
+nothing_left
 
 # Output that cannot be written, by ./record and by the program alone.
 says 2 'record: standard output: cannot be written' bash -c '"$@" >/dev/full' bash "$record" --explain "$fault"

@@ -8,7 +8,7 @@ use answers::Refusal;
 use session::Taken;
 
 // The number of an answer: 0 where the packet was taken.
-pub fn number_of(answer: Taken) -> u8 {
+pub(crate) fn number_of(answer: Taken) -> u8 {
     match answer {
         Taken::Accepted(_) => 0,
         Taken::Refused(reason) => reason.number(),
@@ -16,7 +16,7 @@ pub fn number_of(answer: Taken) -> u8 {
 }
 
 // A refusal in a few words, those of lv_answer_text (include/landing_voice.h).
-pub fn say_text(number: u8) {
+pub(crate) fn say_text(number: u8) {
     match number {
         1 => say(b"no octet"),
         2 => say(b"index past length"),
@@ -105,7 +105,7 @@ fn say_taken(lost: usize) {
 }
 
 // What the packet with this payload was answered.
-pub fn say_answer(answer: Taken, payload: &[u8]) {
+pub(crate) fn say_answer(answer: Taken, payload: &[u8]) {
     match answer {
         Taken::Accepted(lost) => say_taken(lost),
         Taken::Refused(reason) => say_refusal(reason, payload),

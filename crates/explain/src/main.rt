@@ -1,6 +1,6 @@
 // Reads a capture from standard input and tells on standard output, for a person, what became of each of its packets; then how
-// many were taken and refused, and what its recording holds. A bad capture gives the line "bad capture", with the reason on
-// standard error.
+// many were taken and refused, and what its recording holds. A bad capture gives the line "bad capture" and no more: the recorder
+// tells why.
 mod answer;
 mod columns;
 mod packets;
@@ -11,11 +11,10 @@ use columns::say;
 use columns::say_last;
 use libc::STDIN_FILENO;
 
-// The line of document 01, and the reason beside it.
-fn say_bad(fault: Fault, octets: usize) {
+// The line of document 01.
+fn say_bad() {
     let line = *b"bad capture\n";
     say_last(&line);
-    telling::tell_why(fault, octets);
 }
 
 // A good capture: its packets, what they were answered in all, and its recording.
@@ -39,7 +38,7 @@ fn judge(capture: &[u8]) {
     let fault = capture::judge(capture);
     match fault {
         Fault::None => explain(capture),
-        _ => say_bad(fault, capture.len()),
+        _ => say_bad(),
     }
 }
 
@@ -50,7 +49,7 @@ fn main() {
     let mut more = [0u8; 1];
     let left = io::read_full(STDIN_FILENO, &mut more);
     if 0 < left {
-        say_bad(Fault::TooLong, count);
+        say_bad();
     } else {
         judge(&input[..count]);
     }

@@ -88,7 +88,7 @@ fn tally_one(tally: &mut [u64; 256], number: u8) {
 }
 
 // The lines of all packets, and how often each number was answered.
-pub fn explain_packets(capture: &[u8], count: usize) -> [u64; 256]
+pub(crate) fn explain_packets(capture: &[u8], count: usize) -> [u64; 256]
     requires { ⌜ 2 + 12 * count ≤ length (now capture) ⌝ }
 {
     let mut tally = [0u64; 256];

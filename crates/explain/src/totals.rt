@@ -34,7 +34,7 @@ fn say_refused(tally: &[u64; 256]) {
 }
 
 // How many packets were taken and refused, of so many.
-pub fn say_packets(count: usize, tally: &[u64; 256]) {
+pub(crate) fn say_packets(count: usize, tally: &[u64; 256]) {
     let taken = tally[0];
     let refused = std::num::wrapping_sub_u64(count as u64, taken);
     say_number(b"packets taken: ", taken, b"\n");
@@ -88,7 +88,7 @@ fn say_first(octets: &[u8], count: usize) {
 }
 
 // What the recording of a capture holds. There is room for any.
-pub fn say_recording(capture: &[u8]) {
+pub(crate) fn say_recording(capture: &[u8]) {
     let mut out = capture::room();
     let outcome = capture::record(capture, &mut out);
     match outcome {

@@ -30,10 +30,10 @@ use Rattle.session.specs.declared.Taken.the-variants.{Accepted, Refused}
 use Rattle.session.proofs.Ends.{open-has, group-has, Placed, no, again, put, first, next, Ends, refuses, places, offer-ends}
 use Rattle.frame.proofs.PlacesLaws.{length-upTo, upTo-at}
 use Rattle.capture.specs.Capture.{Heard, countOf, heardAt, packetsIn, good}
-use Rattle.capture.specs.Run.{Step, andThen, firstSession, offeredTo, takenOf, offering, pouredOf, pouring, isTwelve, stepOf}
+use Rattle.capture.specs.Run.{Step, still, andThen, firstSession, offeredTo, takenOf, offering, pouredOf, pouring, isTwelve, readied, stepOf}
 use Rattle.capture.specs.Run.{answeredBy, runOf, lostIn, wholeRun, packetAnswered, answerOf}
 use Rattle.capture.specs.declared.Told.the-variants as told
-use Rattle.capture.proofs.RunLaws.{run-last, step-later, step-once}
+use Rattle.capture.proofs.RunLaws.{run-last}
 
 -- ---- a step answers its one packet
 taken-answers : (kind : Kind) (s t : Session) (a : Taken) → takenOf kind s t a .answers ≡ a ∷ []
@@ -53,33 +53,17 @@ pouring-answers v s = go (pourMade (voiceWith v) s)
     go (octets w) = refl
     go (refusedOutput r) = refl
 
-module _ (kind : Kind) (s : Session) (h : Heard) (o : Offered) (b : Bool) (first : o ≡ offeredTo (kind .table) s h) (twelve : b ≡ isTwelve (o .answer)) where
-  asked : b ≡ isTwelve (offeredTo (kind .table) s h .answer)
-  asked = twelve ∙ ap (λ (y : Offered). isTwelve (y .answer)) first
-
-  pub once-answered : b ≡ false → stepOf kind s h .answers ≡ o .answer ∷ []
-  once-answered q =
-      ap (λ (a : Step). a .answers) (sym (step-once kind s h b asked q)) ∙ offering-answers kind s h ∙ ap (λ (y : Offered). y .answer ∷ []) (sym first)
-
-  -- on 12 it is the second answer
-  pub later-answered : (t : Session) (o′ : Offered) → b ≡ true → t ≡ pouring (kind .table) s .session → o′ ≡ offeredTo (kind .table) t h →
-      stepOf kind s h .answers ≡ o′ .answer ∷ []
-  unfolding andThen
-  later-answered t o′ q e y =
-      ap (λ (a : Step). a .answers) (sym (step-later kind s h b asked q))
-      ∙ ap₂ _++_ (pouring-answers (kind .table) s) (offering-answers kind (pouring (kind .table) s .session) h)
-      ∙ ap (λ (z : Session). offeredTo (kind .table) z h .answer ∷ []) (sym e)
-      ∙ ap (λ (z : Offered). z .answer ∷ []) (sym y)
-
--- its one answer: that of the first offer, and on 12 that of the second
-pub step-answers : (kind : Kind) (s : Session) (h : Heard) → stepOf kind s h .answers ≡ answeredBy kind s h ∷ []
-step-answers kind s h = go (isTwelve (offeredTo (kind .table) s h .answer)) refl
+readied-answers : (kind : Kind) (s : Session) (h : Heard) → readied kind s h .answers ≡ []
+unfolding readied
+readied-answers kind s h = go (isTwelve (offeredTo (kind .table) s h .answer))
   where
-    go : (b : Bool) →
-        let o = offeredTo (kind .table) s h in
-        isTwelve (o .answer) ≡ b → stepOf kind s h .answers ≡ cond b (offeredTo (kind .table) (pouring (kind .table) s .session) h .answer) (o .answer) ∷ []
-    go true e = later-answered kind s h (offeredTo (kind .table) s h) true refl (sym e) _ _ refl refl refl
-    go false e = once-answered kind s h (offeredTo (kind .table) s h) false refl (sym e) refl
+    go : (b : Bool) → cond b (pouring (kind .table) s) (still s []) .answers ≡ []
+    go true = pouring-answers (kind .table) s
+    go false = refl
+
+pub step-answers : (kind : Kind) (s : Session) (h : Heard) → stepOf kind s h .answers ≡ answeredBy kind s h ∷ []
+unfolding stepOf andThen
+step-answers kind s h = ap₂ _++_ (readied-answers kind s h) (offering-answers kind (readied kind s h .session) h)
 
 -- ---- and records the group that it pours on 12, and an erasure for each lost frame of its answer
 offering-octets : (kind : Kind) (s : Session) (h : Heard) → offering kind s h .octets ≡ replicate (lostIn (offeredTo (kind .table) s h .answer)) (kind .erasure)
@@ -90,27 +74,9 @@ offering-octets kind s h = go (offeredTo (kind .table) s h .session) (offeredTo 
     go t (Accepted lost) = refl
     go t (Refused r) = refl
 
-pub step-octets : (kind : Kind) (s : Session) (h : Heard) (a : Taken) → stepOf kind s h .answers ≡ a ∷ [] →
-    stepOf kind s h .octets ≡
-    cond (isTwelve (offeredTo (kind .table) s h .answer)) (pouring (kind .table) s .octets) [] ++ replicate (lostIn a) (kind .erasure)
+pub step-octets : (kind : Kind) (s : Session) (h : Heard) → stepOf kind s h .octets ≡ readied kind s h .octets ++ replicate (lostIn (answeredBy kind s h)) (kind .erasure)
 unfolding stepOf andThen
-step-octets kind s h a e =
-    go (isTwelve o) ∙ ap (λ (w : List Taken). cond (isTwelve o) p [] ++ replicate (lostIn (getD w 0 a)) (kind .erasure)) (sym (step-answers kind s h) ∙ e)
-  where
-    o : Taken
-    o = offeredTo (kind .table) s h .answer
-
-    p : List ℕ
-    p = pouring (kind .table) s .octets
-
-    t : Session
-    t = pouring (kind .table) s .session
-
-    go : (b : Bool) →
-        cond b (andThen (pouring (kind .table) s) (λ t. offering kind t h)) (offering kind s h) .octets ≡
-        cond b p [] ++ replicate (lostIn (cond b (offeredTo (kind .table) t h .answer) o)) (kind .erasure)
-    go true = ap (λ (w : List ℕ). p ++ w) (offering-octets kind t h)
-    go false = offering-octets kind s h
+step-octets kind s h = ap (λ (w : List ℕ). readied kind s h .octets ++ w) (offering-octets kind (readied kind s h .session) h)
 
 -- ---- 12 comes of an open session that holds a group; pouring ends that group, so the second answer is never 12
 module _ (v : FrameTable) (h : Heard) where
@@ -156,11 +122,11 @@ module _ (v : FrameTable) (h : Heard) where
       rw (pouring-ends s (d .0) (d .1)) (nothing-held (ended holdingShape s) (nothing-is holdingShape))
 
 twelve-never : (kind : Kind) (s : Session) (h : Heard) → isTwelve (answeredBy kind s h) ≡ false
+unfolding readied
 twelve-never kind s h = go (isTwelve (offeredTo (kind .table) s h .answer)) refl
   where
-    go : (b : Bool) →
-        let o = offeredTo (kind .table) s h in
-        isTwelve (o .answer) ≡ b → isTwelve (cond b (offeredTo (kind .table) (pouring (kind .table) s .session) h .answer) (o .answer)) ≡ false
+    go : (b : Bool) → isTwelve (offeredTo (kind .table) s h .answer) ≡ b →
+        isTwelve (offeredTo (kind .table) (cond b (pouring (kind .table) s) (still s []) .session) h .answer) ≡ false
     go true e = second-answer (kind .table) h s e
     go false e = e
 
@@ -171,15 +137,15 @@ module _ (kind : Kind) where
   length-answers s [] = refl
   length-answers s (h ∷ hs) = rw (step-answers kind s h) (ap suc (length-answers (stepOf kind s h .session) hs))
 
-  -- what packet i is answered is the answer of its own step
+  -- what packet i is answered is what the session before it answers
   pub run-answered : (s : Session) (hs : List Heard) (i : ℕ) (d : Heard) (e : Taken) → i < length hs →
-      stepOf kind (runOf kind s (take i hs) .session) (getD hs i d) .answers ≡ getD (runOf kind s hs .answers) i e ∷ []
+      getD (runOf kind s hs .answers) i e ≡ answeredBy kind (runOf kind s (take i hs) .session) (getD hs i d)
   unfolding runOf andThen
   run-answered s [] i d e q = absurd (omega arith)
-  run-answered s (h ∷ hs) zero d e q = rw (step-answers kind s h) refl
+  run-answered s (h ∷ hs) zero d e q = ap (λ (w : List Taken). getD (w ++ runOf kind (stepOf kind s h .session) hs .answers) 0 e) (step-answers kind s h)
   run-answered s (h ∷ hs) (suc i) d e q =
-      run-answered (stepOf kind s h .session) hs i d e (le-of-suc-le-suc q)
-      ∙ ap (λ (w : List Taken). getD (w ++ runOf kind (stepOf kind s h .session) hs .answers) (suc i) e ∷ []) (sym (step-answers kind s h))
+      ap (λ (w : List Taken). getD (w ++ runOf kind (stepOf kind s h .session) hs .answers) (suc i) e) (step-answers kind s h)
+      ∙ run-answered (stepOf kind s h .session) hs i d e (le-of-suc-le-suc q)
 
   pub run-recorded : (s : Session) (hs : List Heard) (i : ℕ) (d : Heard) → i < length hs →
       runOf kind s (take (i + 1) hs) .octets ≡ runOf kind s (take i hs) .octets ++ stepOf kind (runOf kind s (take i hs) .session) (getD hs i d) .octets
@@ -219,7 +185,7 @@ take-upTo f n (suc i) h =
 
 module _ (kind : Kind) (c : List ℕ) where
   pub packet-answered : (n i : ℕ) (t : Session) (a : Taken) → n ≡ countOf c → i < n →
-      t ≡ runOf kind (firstSession (packetsIn c)) (upTo (heardAt c) i) .session → stepOf kind t (heardAt c i) .answers ≡ a ∷ [] →
+      t ≡ runOf kind (firstSession (packetsIn c)) (upTo (heardAt c) i) .session → a ≡ answeredBy kind t (heardAt c i) →
       a ≡ packetAnswered kind (packetsIn c) i
   unfolding packetsIn
   packet-answered n i t a q h e x =
@@ -227,11 +193,15 @@ module _ (kind : Kind) (c : List ℕ) where
       let s = firstSession hs in
       let k : i < countOf c = omega arith in
       let y = run-answered kind s hs i (heardAt c i) (Refused NotApplicable) (omega (arith, length-upTo (heardAt c) (countOf c))) in
-      let z : stepOf kind (runOf kind s (take i hs) .session) (getD hs i (heardAt c i)) .answers ≡ stepOf kind t (heardAt c i) .answers =
-      ap₂ (λ (u : Session) (g : Heard). stepOf kind u g .answers)
+      let z : answeredBy kind (runOf kind s (take i hs) .session) (getD hs i (heardAt c i)) ≡ answeredBy kind t (heardAt c i) =
+      ap₂ (λ (u : Session) (g : Heard). answeredBy kind u g)
       (ap (λ (gs : List Heard). runOf kind s gs .session) (take-upTo (heardAt c) (countOf c) i (omega arith)) ∙ sym e)
       (upTo-at (heardAt c) (countOf c) i (heardAt c i) k) in
-      ap (λ (w : List Taken). getD w 0 a) (sym x ∙ sym z ∙ y) ∙ sym (packet-is kind hs i)
+      x ∙ sym z ∙ sym y ∙ sym (packet-is kind hs i)
+
+  -- by the answer of its last offer
+  pub last-answered : (t : Session) (h : Heard) (u : Session) (o : Offered) → u ≡ readied kind t h .session → o ≡ offeredTo (kind .table) u h → o .answer ≡ answeredBy kind t h
+  last-answered t h u o e q = ap (λ (y : Offered). y .answer) q ∙ ap (λ (z : Session). offeredTo (kind .table) z h .answer) e
 
   pub no-packet : (n i : ℕ) → n ≡ countOf c → n ≤ i → Refused NotApplicable ≡ packetAnswered kind (packetsIn c) i
   unfolding packetsIn

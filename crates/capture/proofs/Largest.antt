@@ -41,7 +41,7 @@ use Rattle.session.specs.declared.Session.{Session}
 use Rattle.session.specs.declared.Arrival.{Arrival}
 use Rattle.session.specs.declared.Offered.{Offered}
 use Rattle.capture.specs.Capture.{Heard}
-use Rattle.capture.specs.Run.{Step, still, andThen, firstSession, offeredTo, takenOf, offering, pouredOf, pouring, isTwelve, stepOf, runOf}
+use Rattle.capture.specs.Run.{Step, still, andThen, firstSession, offeredTo, takenOf, offering, pouredOf, pouring, isTwelve, readied, stepOf, runOf}
 use Rattle.capture.specs.Run.{lostIn}
 
 at-most-one : (t : Bool) → cond t 1 0 ≤ 1
@@ -242,13 +242,17 @@ pouring-source v s = go (pourMade (voiceWith v) s)
     go (outputs.octets w) = refl
     go (outputs.refusedOutput r) = refl
 
+readied-source : (kind : Kind) (s : Session) (h : Heard) → readied kind s h .session .source ≡ s .source
+unfolding readied
+readied-source kind s h = go (isTwelve (offeredTo (kind .table) s h .answer))
+  where
+    go : (b : Bool) → cond b (pouring (kind .table) s) (still s []) .session .source ≡ s .source
+    go true = pouring-source (kind .table) s
+    go false = refl
+
 pub step-source : (kind : Kind) (s : Session) (h : Heard) → stepOf kind s h .session .source ≡ s .source
 unfolding stepOf andThen
-step-source kind s h = go (isTwelve (offeredTo (kind .table) s h .answer))
-  where
-    go : (b : Bool) → cond b (andThen (pouring (kind .table) s) (λ t. offering kind t h)) (offering kind s h) .session .source ≡ s .source
-    go false = offering-brought kind s h .source
-    go true = offering-brought kind (pouring (kind .table) s .session) h .source ∙ pouring-source (kind .table) s
+step-source kind s h = offering-brought kind (readied kind s h .session) h .source ∙ readied-source kind s h
 
 -- ---- pouring in a run
 data Pours (s : Session) (a : Step) : Type 0 where
@@ -310,7 +314,7 @@ module _ (v : FrameTable) (w : T (within 22 v)) (z : T (erases v)) where
           let f : entriesOf (inTime (voiceWith v) (s .group)) ≡ y = cc in
           omega (arith, pour-small v w z (s .group) e, held-few (s .group) 8, ap length f)
 
-  pub pouring-few : (s : Session) → length (pouring v s .octets) ≤ 1840
+  pouring-few : (s : Session) → length (pouring v s .octets) ≤ 1840
   unfolding pouring pouredOf
   pouring-few s = go (pourMade (voiceWith v) s) refl
     where
@@ -335,19 +339,29 @@ module _ (v : FrameTable) (w : T (within 22 v)) (z : T (erases v)) where
           rw e r
 
 module _ (kind : Kind) (w : T (within 22 (kind .table))) (z : T (erases (kind .table))) where
+  -- what is done before a packet's last offer
+  readied-keeps : (s : Session) (h : Heard) (len i : ℕ) → Small s len i → Small (readied kind s h .session) (len + length (readied kind s h .octets)) i
+  unfolding readied
+  readied-keeps s h len i x = go (isTwelve (offeredTo (kind .table) s h .answer))
+    where
+      go : (b : Bool) → let a = cond b (pouring (kind .table) s) (still s []) in Small (a .session) (len + length (a .octets)) i
+      go true = pour-keeps (kind .table) w z s len i x
+      go false = rw (add-zero len) x
+
+  pub readied-few : (s : Session) (h : Heard) → length (readied kind s h .octets) ≤ 1840
+  unfolding readied
+  readied-few s h = go (isTwelve (offeredTo (kind .table) s h .answer))
+    where
+      go : (b : Bool) → length (cond b (pouring (kind .table) s) (still s []) .octets) ≤ 1840
+      go true = pouring-few (kind .table) w z s
+      go false = omega arith
+
   step-small : (s : Session) (h : Heard) (len i : ℕ) → Small s len i → Small (stepOf kind s h .session) (len + length (stepOf kind s h .octets)) (i + 1)
   unfolding stepOf andThen
-  step-small s h len i x = go (isTwelve (offeredTo (kind .table) s h .answer))
-    where
-      go :
-          (b : Bool) →
-          let a = cond b (andThen (pouring (kind .table) s) (λ t. offering kind t h)) (offering kind s h) in
-          Small (a .session) (len + length (a .octets)) (i + 1)
-      go false = then-small s len i (offering kind s h) x (offering-brought kind s h)
-      go true =
-          let t = pouring (kind .table) s .session in
-          let y = then-small t (len + length (pouring (kind .table) s .octets)) i (offering kind t h) (pour-keeps (kind .table) w z s len i x) (offering-brought kind t h) in
-          rw (behind len (pouring (kind .table) s .octets) (offering kind t h .octets)) y
+  step-small s h len i x =
+      let a = readied kind s h in
+      let y = then-small (a .session) (len + length (a .octets)) i (offering kind (a .session) h) (readied-keeps s h len i x) (offering-brought kind (a .session) h) in
+      rw (behind len (a .octets) (offering kind (a .session) h .octets)) y
 
   run-small : (s : Session) (hs : List Heard) (len i : ℕ) → Small s len i → Small (runOf kind s hs .session) (len + length (runOf kind s hs .octets)) (i + length hs)
   unfolding runOf andThen

@@ -35,7 +35,7 @@ use Rattle.frame.proofs.PlacesLaws.{length-upTo, upTo-more, upTo-first}
 use Rattle.frame.proofs.FrameTableLaws.{rows-within, rows-erases}
 use Rattle.capture.specs.Capture.{Heard, countOf, startAt, heardAt, packetsIn, good}
 use Rattle.capture.specs.Run.{captureVocoder, captureKind, Step, still, andThen, captureForm, firstSession, offeredTo, takenOf, offering, pouredOf, pouring, isTwelve}
-use Rattle.capture.specs.Run.{lostIn, stepOf, runOf, wholeRun, entriesRecorded, captureRecording, largest, Put, Does, recordAnswer}
+use Rattle.capture.specs.Run.{lostIn, readied, stepOf, runOf, wholeRun, entriesRecorded, captureRecording, largest, Put, Does, recordAnswer}
 use Rattle.capture.specs.Run.{recordOutput}
 use Rattle.capture.specs.declared.Run.{Run}
 use Rattle.capture.specs.declared.Outcome.the-variants as outcome
@@ -173,30 +173,35 @@ pub twelve-is : (r : Refusal) (n : ℕ) → n ≡ numberOf r → eqb n 12 ≡ is
 unfolding isTwelve
 twelve-is r n e = ap (λ (i : ℕ). eqb i 12) e
 
-pub step-later : (kind : Kind) (s : Session) (h : Heard) (b : Bool) → b ≡ isTwelve (offeredTo (kind .table) s h .answer) → b ≡ true →
-    andThen (pouring (kind .table) s) (λ t. offering kind t h) ≡ stepOf kind s h
-unfolding stepOf
-step-later kind s h b e q = let z : isTwelve (offeredTo (kind .table) s h .answer) ≡ true = sym e ∙ q in simp z
+readied-later : (kind : Kind) (s : Session) (h : Heard) (b : Bool) → b ≡ isTwelve (offeredTo (kind .table) s h .answer) → b ≡ true → pouring (kind .table) s ≡ readied kind s h
+unfolding readied
+readied-later kind s h b e q = let z : isTwelve (offeredTo (kind .table) s h .answer) ≡ true = sym e ∙ q in simp z
 
-pub step-once : (kind : Kind) (s : Session) (h : Heard) (b : Bool) → b ≡ isTwelve (offeredTo (kind .table) s h .answer) → b ≡ false → offering kind s h ≡ stepOf kind s h
-unfolding stepOf
-step-once kind s h b e q = let z : isTwelve (offeredTo (kind .table) s h .answer) ≡ false = sym e ∙ q in simp z
+readied-once : (kind : Kind) (s : Session) (h : Heard) (b : Bool) → b ≡ isTwelve (offeredTo (kind .table) s h .answer) → b ≡ false → readied kind s h ≡ still s []
+unfolding readied
+readied-once kind s h b e q = let z : isTwelve (offeredTo (kind .table) s h .answer) ≡ false = sym e ∙ q in simp z
 
 offering-is : (kind : Kind) (s : Session) (h : Heard) (o : Offered) → o ≡ offeredTo (kind .table) s h → takenOf kind s (o .session) (o .answer) ≡ offering kind s h
 unfolding offering
 offering-is kind s h o e = ap (λ (x : Offered). takenOf kind s (x .session) (x .answer)) e
 
--- ---- a step: once, or on 12 a second time after pouring
-module _ (kind : Kind) (s : Session) (h : Heard) (at : ℕ) (d : List ℕ) (o : Offered) (b : Bool) (first : o ≡ offeredTo (kind .table) s h) (twelve : b ≡ isTwelve (o .answer)) where
-  pub once-does : (r : Run) (e : List ℕ) → b ≡ false → Does (takenOf kind s (o .session) (o .answer)) at d r e → Does (stepOf kind s h) at d r e
-  once-does r e q x =
-      does-as _ _ at d e r (offering-is kind s h o first ∙ step-once kind s h b (twelve ∙ ap (λ (y : Offered). isTwelve (y .answer)) first) q) x
+-- ---- the last offer of a packet: the first, or on 12 a second after pouring
+module _ (kind : Kind) (h : Heard) (d : List ℕ) (r : Run) (o : Offered) (b : Bool) (first : o ≡ offeredTo (kind .table) (r .session) h) (twelve : b ≡ isTwelve (o .answer)) where
+  asked : b ≡ isTwelve (offeredTo (kind .table) (r .session) h .answer)
+  asked = twelve ∙ ap (λ (y : Offered). isTwelve (y .answer)) first
 
-  pub later-does : (p r : Run) (e e′ : List ℕ) (o′ : Offered) → b ≡ true → Does (pouring (kind .table) s) at d p e → o′ ≡ offeredTo (kind .table) (p .session) h
-      → Does (takenOf kind (p .session) (o′ .session) (o′ .answer)) (p .octets) e r e′ → Does (stepOf kind s h) at d r e′
-  later-does p r e e′ o′ q x y z =
-      does-as _ _ at d e′ r (step-later kind s h b (twelve ∙ ap (λ (y : Offered). isTwelve (y .answer)) first) q)
-      (does-then (pouring (kind .table) s) _ (λ t. offering kind t h) at d e e′ p r x (offering-is kind (p .session) h o′ y ∙ ap (λ (t : Session). offering kind t h) (x .session)) z)
+  pub once-ready : b ≡ false → Does (readied kind (r .session) h) (r .octets) d r d
+  once-ready q = does-nothing _ d r [] (readied-once kind (r .session) h b asked q)
+
+  pub later-ready : (p : Run) (e : List ℕ) → b ≡ true → Does (pouring (kind .table) (r .session)) (r .octets) d p e → Does (readied kind (r .session) h) (r .octets) d p e
+  later-ready p e q x = does-as _ _ (r .octets) d e p (readied-later kind (r .session) h b asked q) x
+
+-- ---- a step: what is done before, and then the offer
+pub step-does : (kind : Kind) (s : Session) (h : Heard) (at : ℕ) (d e e′ : List ℕ) (p r : Run) (o : Offered) → Does (readied kind s h) at d p e →
+    o ≡ offeredTo (kind .table) (p .session) h → Does (takenOf kind (p .session) (o .session) (o .answer)) (p .octets) e r e′ → Does (stepOf kind s h) at d r e′
+unfolding stepOf
+step-does kind s h at d e e′ p r o x y z =
+    does-then (readied kind s h) _ (λ t. offering kind t h) at d e e′ p r x (offering-is kind (p .session) h o y ∙ ap (λ (t : Session). offering kind t h) (x .session)) z
 
 pub lost-fit : (v : FrameTable) (s : Session) (h : Heard) (o : Offered) → o ≡ offeredTo v s h → lostIn (o .answer) ≤ 1000
 lost-fit v s h o e = rw e (lost-few v s h)

@@ -96,16 +96,17 @@ unfoldable pub isTwelve : Taken → Bool
 isTwelve (Accepted lost) = false
 isTwelve (Refused r) = eqb (numberOf r) 12
 
+-- "on 12 it pours": what is done before a packet is offered for the last time; if it was not 12, the first offer is the last
+unfoldable pub readied : Kind → Session → Heard → Step
+readied kind s h = cond (isTwelve (offeredTo (kind .table) s h .answer)) (pouring (kind .table) s) (still s [])
+
+-- what the packet is answered: that of its last offer
+abbrev pub answeredBy : Kind → Session → Heard → Taken
+answeredBy kind s h = offeredTo (kind .table) (readied kind s h .session) h .answer
+
 -- "on 12 it pours and offers again; any other refusal skips the packet"
 unfoldable pub stepOf : Kind → Session → Heard → Step
-stepOf kind s h =
-    cond (isTwelve (offeredTo (kind .table) s h .answer)) (andThen (pouring (kind .table) s) (λ t. offering kind t h)) (offering kind s h)
-
--- what the packet is answered by it: the first answer, and on 12 the second
-abbrev pub answeredBy : Kind → Session → Heard → Taken
-answeredBy kind s h =
-    let o = offeredTo (kind .table) s h in
-    cond (isTwelve (o .answer)) (offeredTo (kind .table) (pouring (kind .table) s .session) h .answer) (o .answer)
+stepOf kind s h = andThen (readied kind s h) (λ t. offering kind t h)
 
 -- all packets of the capture, one after the other
 unfoldable pub runOf : Kind → Session → List Heard → Step

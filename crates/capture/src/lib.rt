@@ -9,13 +9,12 @@ use session::Session;
 use session::Taken;
 ghost use mathlib.Core.Path.{_≡_};
 ghost use mathlib.Core.Bool.{true};
-ghost use mathlib.Core.List.{[], _∷_};
 ghost use Prim.Native.Nat.{_+_, _*_, _<_, _≤_};
 ghost use lib.ListN.{length, replicate};
 ghost use lib.Dec.{leb};
 ghost use Rattle.frame.specs.Places.{upTo};
 ghost use Rattle.capture.specs.Capture.{countOf, lengthAt, lengths, startAt, heardAt, packetsIn, endFault, faultOf, good};
-ghost use Rattle.capture.specs.Run.{captureKind, firstSession, offeredTo, lostIn, largest, takenOf, isTwelve, pouring, stepOf, runOf};
+ghost use Rattle.capture.specs.Run.{captureKind, firstSession, offeredTo, lostIn, largest, takenOf, isTwelve, pouring, readied, stepOf, runOf};
 ghost use Rattle.capture.specs.Run.{captureRecording, Put, Does, recordAnswer, recordOutput, packetAnswered, answerOf};
 
 // The most octets that the recording of a capture can have.
@@ -230,13 +229,20 @@ fn is_twelve(answer: Taken) -> bool
     }
 }
 
-// The run after packet i: on 12 the group is poured and the packet offered again.
-fn step(run: Run, capture: &[u8], i: usize, start: usize, out: &mut [u8]) -> Run
+// The last offer of a packet: the run that it was made in, and what came of it.
+pub struct LastOffer {
+    pub run: Run,
+    pub offered: Offered,
+}
+
+// Offers packet i: on 12 the group is poured and the packet offered again.
+fn last_offer(run: Run, capture: &[u8], i: usize, start: usize, out: &mut [u8]) -> LastOffer
     requires { ⌜ (2 + 12 * (i + 1) ≤ length (now capture))
         × (start ≡ startAt (now capture) i)
         × (start + lengthAt (now capture) i ≤ length (now capture))
         × (run .octets ≤ largest) ⌝ }
-    ensures { λ r. ⌜ Does (stepOf captureKind (run .session) (heardAt (now (capture .entry)) i)) (run .octets) (now (out .entry)) r (now (out .exit)) ⌝ }
+    ensures { λ r. ⌜ Does (readied captureKind (run .session) (heardAt (now (capture .entry)) i)) (run .octets) (now (out .entry)) (r .run) (now (out .exit))
+        × (r .offered ≡ offeredTo (captureKind .table) (r .run .session) (heardAt (now (capture .entry)) i)) ⌝ }
 {
     let session = run.session;
     let offered = offer_packet(session, capture, i, start);
@@ -246,9 +252,26 @@ fn step(run: Run, capture: &[u8], i: usize, start: usize, out: &mut [u8]) -> Run
         let poured = pour_group(run, out);
         let next = poured.session;
         let again = offer_packet(next, capture, i, start);
-        return take(poured, again, out);
+        return LastOffer {
+            run: poured,
+            offered: again,
+        };
     }
-    take(run, offered, out)
+    LastOffer { run, offered }
+}
+
+// The run after packet i.
+fn step(run: Run, capture: &[u8], i: usize, start: usize, out: &mut [u8]) -> Run
+    requires { ⌜ (2 + 12 * (i + 1) ≤ length (now capture))
+        × (start ≡ startAt (now capture) i)
+        × (start + lengthAt (now capture) i ≤ length (now capture))
+        × (run .octets ≤ largest) ⌝ }
+    ensures { λ r. ⌜ Does (stepOf captureKind (run .session) (heardAt (now (capture .entry)) i)) (run .octets) (now (out .entry)) r (now (out .exit)) ⌝ }
+{
+    let last = last_offer(run, capture, i, start, out);
+    let ready = last.run;
+    let offered = last.offered;
+    take(ready, offered, out)
 }
 
 // The session that a capture is offered to: for the first packet's source, if there is one.
@@ -341,28 +364,7 @@ pub fn record(capture: &[u8], out: &mut [u8]) -> Outcome
     Outcome::Recorded(Written::Octets(count))
 }
 
-// What packet i, whose payload begins at start, is answered by a session: on 12 its group is poured and the packet offered again.
-fn answer_packet(session: Session, capture: &[u8], i: usize, start: usize) -> Taken
-    requires { ⌜ (2 + 12 * (i + 1) ≤ length (now capture))
-        × (start ≡ startAt (now capture) i)
-        × (start + lengthAt (now capture) i ≤ length (now capture)) ⌝ }
-    ensures { λ r. ⌜ stepOf captureKind session (heardAt (now (capture .entry)) i) .answers ≡ r ∷ [] ⌝ }
-{
-    let offered = offer_packet(session, capture, i, start);
-    let answer = offered.answer;
-    let later = is_twelve(answer);
-    if later {
-        let mut none = [0u8; 0];
-        let poured = pour_group(Run { session, octets: 0 }, &mut none);
-        let next = poured.session;
-        let again = offer_packet(next, capture, i, start);
-        let second = again.answer;
-        return second;
-    }
-    answer
-}
-
-// What packet i of a good capture is answered: the run over the packets before it, with no room, and then its own step.
+// What packet i of a good capture is answered: the run over the packets before it, with no room, and then its own offer.
 fn answer_in(capture: &[u8], count: usize, i: usize) -> Taken
     requires { ⌜ (good (now capture) ≡ true) × (count ≡ countOf (now capture)) × (i < count) ⌝ }
     ensures { λ r. ⌜ r ≡ packetAnswered captureKind (packetsIn (now (capture .entry))) i ⌝ }
@@ -371,9 +373,11 @@ fn answer_in(capture: &[u8], count: usize, i: usize) -> Taken
     let session = first_session(capture, count);
     let begun = Run { session, octets: 7 };
     let run = run_packets(begun, capture, count, i, &mut none);
-    let next = run.session;
     let start = 2 + 12 * count + payload_octets(capture, i);
-    answer_packet(next, capture, i, start)
+    let last = last_offer(run, capture, i, start, &mut none);
+    let offered = last.offered;
+    let answer = offered.answer;
+    answer
 }
 
 // What packet i of a capture was answered in the run that `record` makes: 21 where there is no packet i.

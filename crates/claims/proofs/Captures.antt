@@ -17,7 +17,7 @@ use Rattle.session.specs.declared.Taken.the-variants.{Accepted}
 use Rattle.answers.specs.declared.Refusal.the-variants.{AnotherSource, NotApplicable}
 use Rattle.holding.proofs.GroupLaws.{nothing-is}
 use Rattle.capture.specs.Capture.{Heard, packetsIn}
-use Rattle.capture.specs.Run.{captureKind, Step, andThen, captureForm, firstSession, offeredTo, takenOf, offering, pouredOf, pouring, isTwelve, stepOf}
+use Rattle.capture.specs.Run.{captureKind, Step, still, readied, andThen, captureForm, firstSession, offeredTo, takenOf, offering, pouredOf, pouring, isTwelve, stepOf}
 use Rattle.capture.specs.Run.{runOf, wholeRun, entriesRecorded, captureRecording}
 use Rattle.capture.proofs.RunLaws.{table-fits, table-erases}
 use Rattle.capture.proofs.Largest.{step-source}
@@ -34,21 +34,33 @@ record Traceless (s : Session) (a : Step) : Type 0 where
   session : a .session ≡ s
   octets : a .octets ≡ []
 
-other-step : (kind : Kind) (s : Session) (h : Heard) → eqb (h .source) (s .source) ≡ false → Traceless s (stepOf kind s h)
-unfolding stepOf offering takenOf isTwelve offeredTo offered received refuse
-other-step kind s h e = rw e (go (isOpen (voiceWith (kind .table)) s))
-  where
-    go :
-        (b : Bool) →
-        let o = cond b (refuse s AnotherSource) (refuse s NotApplicable) in
-        Traceless s (cond (isTwelve (o .answer)) (andThen (pouring (kind .table) s) (λ t. offering kind t h)) (takenOf kind s (o .session) (o .answer)))
-    go true = record { session = refl; octets = refl }
-    go false = record { session = refl; octets = refl }
-
 -- two steps that leave the same session and record the same octets
 record Alike (a b : Step) : Type 0 where
   session : a .session ≡ b .session
   octets : a .octets ≡ b .octets
+
+-- where it is not 12, the packet is offered once
+offered-once : (kind : Kind) (s : Session) (h : Heard) → isTwelve (offeredTo (kind .table) s h .answer) ≡ false → Alike (stepOf kind s h) (offering kind s h)
+unfolding stepOf readied andThen
+offered-once kind s h e = rw e (record { session = refl; octets = refl })
+
+traceless-once : (kind : Kind) (s t : Session) (h : Heard) → isTwelve (offeredTo (kind .table) s h .answer) ≡ false → Traceless t (offering kind s h) → Traceless t (stepOf kind s h)
+traceless-once kind s t h e x = let a = offered-once kind s h e in record { session = a .session ∙ x .session; octets = a .octets ∙ x .octets }
+
+other-offer : (kind : Kind) (s : Session) (h : Heard) → eqb (h .source) (s .source) ≡ false →
+    (isTwelve (offeredTo (kind .table) s h .answer) ≡ false) × Traceless s (offering kind s h)
+unfolding offering takenOf isTwelve offeredTo offered received refuse
+other-offer kind s h e = rw e (go (isOpen (voiceWith (kind .table)) s))
+  where
+    go :
+        (b : Bool) →
+        let o = cond b (refuse s AnotherSource) (refuse s NotApplicable) in
+        (isTwelve (o .answer) ≡ false) × Traceless s (takenOf kind s (o .session) (o .answer))
+    go true = (refl, record { session = refl; octets = refl })
+    go false = (refl, record { session = refl; octets = refl })
+
+other-step : (kind : Kind) (s : Session) (h : Heard) → eqb (h .source) (s .source) ≡ false → Traceless s (stepOf kind s h)
+other-step kind s h e = let x = other-offer kind s h e in traceless-once kind s s h (x .0) (x .1)
 
 from-source : (kind : Kind) (s : Session) (x : ℕ) → s .source ≡ x → (hs : List Heard) → Alike (runOf kind s hs) (runOf kind s (fromSource x hs))
 unfolding runOf andThen
@@ -94,8 +106,8 @@ nothing-is-larger c g = largest-is captureKind table-fits table-erases c refl g
 -- ---- demand 3 through a capture
 -- a packet that is accepted, with nothing lost before it, is taken and no more
 taken-step : (kind : Kind) (s : Session) (h : Heard) → offeredTo (kind .table) s h .answer ≡ Accepted 0 → Traceless (offeredTo (kind .table) s h .session) (stepOf kind s h)
-unfolding stepOf offering takenOf isTwelve
-taken-step kind s h e = rw e (record { session = refl; octets = refl })
+unfolding offering takenOf isTwelve
+taken-step kind s h e = traceless-once kind s (offeredTo (kind .table) s h .session) h (ap isTwelve e) (rw e (record { session = refl; octets = refl }))
 
 all-taken : (kind : Kind) {form : Form} (g : Sent (voiceWith (kind .table)) form) (s : Session) (ns : List ℕ) → AllAccepted s g 0 ns →
     Traceless (offerAll s g ns) (runOf kind s (map (heardOf g) ns))

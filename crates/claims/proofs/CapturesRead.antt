@@ -40,7 +40,7 @@ use Rattle.session.specs.declared.Session.{Session}
 use Rattle.session.specs.declared.Offered.{Offered}
 use Rattle.session.proofs.Ends.{Placed, no, again, put, first, next, Ends, refuses, places, offer-ends}
 use Rattle.capture.specs.Capture.{Heard, packetsIn}
-use Rattle.capture.specs.Run.{Step, andThen, firstSession, offeredTo, takenOf, offering, pouredOf, pouring, isTwelve, stepOf, runOf}
+use Rattle.capture.specs.Run.{Step, still, andThen, firstSession, offeredTo, takenOf, offering, pouredOf, pouring, isTwelve, readied, stepOf, runOf}
 use Rattle.capture.specs.Run.{wholeRun, entriesRecorded, captureRecording}
 use Rattle.capture.proofs.Largest.{madeIf}
 use Rattle.claims.specs.Joinings.{HasRoom}
@@ -165,13 +165,17 @@ module _ (kind : Kind) (r : HasRoom (voiceWith (kind .table))) (u : T (single (k
       let z = y (a .session) (x .fine) in
       record { fine = z .fine; entries = entries-both (kind .table) (a .octets) (f (a .session) .octets) (x .entries) (z .entries) }
 
+  ready-good : (s : Session) (h : Heard) → Fine (kind .table) s → Good (kind .table) (readied kind s h)
+  unfolding readied
+  ready-good s h f = go (isTwelve (offeredTo (kind .table) s h .answer))
+    where
+      go : (b : Bool) → Good (kind .table) (cond b (pouring (kind .table) s) (still s []))
+      go true = pour-good s f
+      go false = record { fine = f; entries = entries-none (kind .table) }
+
   step-good : (s : Session) (h : Heard) → Fine (kind .table) s → Good (kind .table) (stepOf kind s h)
   unfolding stepOf
-  step-good s h f = go (isTwelve (offeredTo (kind .table) s h .answer))
-    where
-      go : (b : Bool) → Good (kind .table) (cond b (andThen (pouring (kind .table) s) (λ t. offering kind t h)) (offering kind s h))
-      go true = then-good (pouring (kind .table) s) (λ t. offering kind t h) (pour-good s f) (λ t x. offer-good t h x)
-      go false = offer-good s h f
+  step-good s h f = then-good (readied kind s h) (λ t. offering kind t h) (ready-good s h f) (λ t x. offer-good t h x)
 
   run-good : (s : Session) (hs : List Heard) → Fine (kind .table) s → Good (kind .table) (runOf kind s hs)
   unfolding runOf

@@ -24,7 +24,7 @@ use Rattle.pouring.specs.Pouring.{row, rows, poured}
 use Rattle.session.specs.Session.{vacant, fresh, formRight, lastRight, groupRight, isOpen, refuse, accept, withGroup, lastNumbers}
 use Rattle.session.specs.Session.{groupBefore, begins, belongs, placedBy, placed, arrival, judged, received, offered, pourMade, ended}
 use Rattle.capture.specs.Capture.{endFault, tableFault, countFault, faultOf, good, startAt, lengths, heardAt, packetsIn}
-use Rattle.capture.specs.Run.{captureKind, captureForm, firstSession, offeredTo, takenOf, offering, pouredOf, pouring, isTwelve, stepOf, runOf}
+use Rattle.capture.specs.Run.{captureKind, captureForm, firstSession, offeredTo, takenOf, offering, pouredOf, pouring, isTwelve, readied, stepOf, runOf}
 use Rattle.capture.specs.Run.{wholeRun, entriesRecorded, captureRecording, andThen, packetAnswered, answerOf}
 use Rattle.claims.specs.Examples.{fourPackets, fourAnswers, MarkedExamples, HoldsP15, RefusedBy, NewBase, P15, WholeCase}
 use Rattle.claims.proofs.Offering.{offer-read}
@@ -55,7 +55,7 @@ unfolding rowsOf rowOf toc bodies interleaved readAs differ atDistance withHeld 
     rooms frameOf row rows poured vacant fresh formRight lastRight groupRight isOpen refuse accept withGroup
     lastNumbers groupBefore begins belongs placedBy placed arrival judged received offered pourMade ended endFault
     tableFault countFault faultOf good startAt lengths heardAt packetsIn captureForm firstSession offeredTo takenOf
-    offering pouredOf pouring isTwelve stepOf runOf wholeRun entriesRecorded captureRecording andThen
+    offering pouredOf pouring isTwelve readied stepOf runOf wholeRun entriesRecorded captureRecording andThen
 whole-case = record { heard = record { whole = refl; recording = refl }; lost = record { whole = refl; recording = refl } }
 
 -- the packets of a capture are told apart: one is held, one is refused with its place, one is another's, one is held when it is offered
@@ -67,7 +67,7 @@ unfolding rowsOf rowOf toc firstCut bodies interleaved readAs differ atDistance 
     rooms frameOf row rows poured vacant fresh formRight lastRight groupRight isOpen refuse accept withGroup
     lastNumbers groupBefore begins belongs placedBy placed arrival judged received offered pourMade ended endFault
     tableFault countFault faultOf good startAt lengths heardAt packetsIn captureForm firstSession offeredTo takenOf
-    offering pouredOf pouring isTwelve stepOf runOf wholeRun andThen packetAnswered answerOf
+    offering pouredOf pouring isTwelve readied stepOf runOf wholeRun andThen packetAnswered answerOf
 four-answers = refl
 
 pub marked-examples : MarkedExamples

@@ -15,7 +15,7 @@ use Rattle.recording.specs.Recording.{recordingRead}
 use Rattle.answers.specs.declared.Refusal.the-variants.{NotApplicable}
 use Rattle.session.specs.declared.Taken.the-variants.{Refused}
 use Rattle.capture.specs.Capture.{Heard, countOf, startAt, packetsIn, good}
-use Rattle.capture.specs.Run.{captureKind, captureForm, Step, firstSession, offeredTo, lostIn, pouring, isTwelve, answeredBy, runOf}
+use Rattle.capture.specs.Run.{captureKind, captureForm, Step, firstSession, lostIn, pouring, isTwelve, readied, answeredBy, runOf}
 use Rattle.capture.specs.Run.{wholeRun, entriesRecorded, packetAnswered, answerOf, captureRecording, largest}
 use Rattle.capture.specs.declared.Told.the-variants as told
 use Rattle.claims.specs.Joinings.{HasRoom}
@@ -102,13 +102,13 @@ AnsweredByItsStep =
     (kind : Kind) (hs : List Heard) (none : Heard) (i : ℕ) → i < length hs →
     packetAnswered kind hs i ≡ answeredBy kind (runBefore kind hs i .session) (getD hs i none)
 
--- and it adds to the recording the group that is poured on 12, and an erasure for each lost frame of its answer; the last group comes last
+-- and it adds to the recording what is done before its last offer, the group that is poured on 12, and an erasure for each lost frame of
+-- its answer; the last group comes last
 pub record RecordedByItsAnswers : Type 0 where
   pub each : (kind : Kind) (hs : List Heard) (none : Heard) (i : ℕ) → i < length hs →
       let a = runBefore kind hs i in
-      let twelve = isTwelve (offeredTo (kind .table) (a .session) (getD hs i none) .answer) in
-      let group = cond twelve (pouring (kind .table) (a .session) .octets) [] in
-      runBefore kind hs (i + 1) .octets ≡ a .octets ++ (group ++ replicate (lostIn (packetAnswered kind hs i)) (kind .erasure))
+      runBefore kind hs (i + 1) .octets ≡
+      a .octets ++ (readied kind (a .session) (getD hs i none) .octets ++ replicate (lostIn (packetAnswered kind hs i)) (kind .erasure))
   pub whole : (kind : Kind) (hs : List Heard) →
       let a = runBefore kind hs (length hs) in
       entriesRecorded kind hs ≡ a .octets ++ pouring (kind .table) (a .session) .octets

@@ -1,4 +1,5 @@
--- Document 01, "Answers by number": the paper's number of each refusal; and document 02, (i), "Say where the fault is": its place.
+-- Document 01, "Answers by number": the paper's number of each refusal, with those of document 02; and document 02, (i), "Say where the
+-- fault is": its place.
 use Prim.Native.Nat.{ℕ}
 use Rattle.answers.specs.declared.Place.{Place}
 use Rattle.answers.specs.declared.Place.the-variants.{Octet, Nowhere}
@@ -26,9 +27,10 @@ use Rattle.answers.specs.declared.Refusal.the-variants.{
   BodyCut,
   NotSameGroup,
   NotApplicable,
+  OffTheClock,
 }
 
--- the table's first column
+-- the table's first column; and (02, ii) "new 24 if the difference is no multiple of 160"
 abbrev pub numberOf : Refusal → ℕ
 numberOf NoOctet = 1
 numberOf IndexPastLength = 2
@@ -52,6 +54,7 @@ numberOf WrongOpening = 18
 numberOf (BodyCut at) = 19
 numberOf NotSameGroup = 20
 numberOf NotApplicable = 21
+numberOf OffTheClock = 24
 
 -- (02, i) "Refusals 4 to 8 of a payload must carry the octet place of the fault"; "Recordings do the same for 5 and 19". Every other
 -- refusal has none
@@ -78,3 +81,4 @@ placeOf WrongOpening = Nowhere
 placeOf (BodyCut at) = Octet at
 placeOf NotSameGroup = Nowhere
 placeOf NotApplicable = Nowhere
+placeOf OffTheClock = Nowhere

@@ -2,7 +2,8 @@
 ghost use mathlib.Core.Path.{_≡_};
 ghost use Rattle.answers.specs.Answers.{numberOf, placeOf};
 
-// The refusals, each by the number that document 01 gives it. Those of which document 02, (i), asks it carry the octet place of the fault.
+// The refusals, each by the number that document 01 or 02 gives it. Those of which document 02, (i), asks it carry the octet place of the
+// fault.
 pub enum Refusal {
     NoOctet,
     IndexPastLength,
@@ -33,6 +34,8 @@ pub enum Refusal {
     BodyCut(usize),
     NotSameGroup,
     NotApplicable,
+    // The clock stands between two frames (02, ii).
+    OffTheClock,
 }
 
 // The octet place of a fault, counted from 0; or no octet is at fault.
@@ -42,7 +45,7 @@ pub enum Place {
 }
 
 impl Refusal {
-    // The number that document 01 gives the refusal.
+    // The number that document 01 or 02 gives the refusal.
     pub fn number(self) -> u8
         ensures { λ r. ⌜ r ≡ numberOf self ⌝ }
     {
@@ -69,6 +72,7 @@ impl Refusal {
             Refusal::BodyCut(_) => 19,
             Refusal::NotSameGroup => 20,
             Refusal::NotApplicable => 21,
+            Refusal::OffTheClock => 24,
         }
     }
 
@@ -99,6 +103,7 @@ impl Refusal {
             Refusal::BodyCut(at) => Place::Octet(at),
             Refusal::NotSameGroup => Place::Nowhere,
             Refusal::NotApplicable => Place::Nowhere,
+            Refusal::OffTheClock => Place::Nowhere,
         }
     }
 }

@@ -1,5 +1,5 @@
 -- No recording of a capture is larger than `largest`: what a run has recorded, and what its held group would pour, is at most 300 octets for each
--- packet offered, and 1,000 lost frames more for each once a group was poured. Assumes nothing.
+-- packet offered, and 3,000 lost frames more for each once a group was poured. Assumes nothing.
 use Prim.Native.Nat.{ℕ, zero, suc, _+_, _*_, _≤_, _<_}
 use mathlib.Core.Bool.{Bool, true, false, cond, _&&_}
 use mathlib.Core.Path.{_≡_, refl, sym, ap, ap₂, _∙_}
@@ -9,8 +9,8 @@ use native.Mathlib.Nat.{add-zero, zero-add, le-refl, mul-le-mul, suc-mul, eq-or-
 use native.Mathlib.Omega.{arith}
 use lib.ListN.{length, getD, replicate, length-append, length-take, length-replicate, getD-replicate}
 use lib.Seq.{getD-set-other}
-use lib.Dec.{T, eqb, leb}
-use borrow.Author.Tests.{eqb-true, eqb-false, leb-true}
+use lib.Dec.{T, eqb}
+use borrow.Author.Tests.{eqb-true, eqb-false}
 use Rattle.octets.specs.Octets.{sameOctets}
 use Rattle.octets.proofs.Logic.{apart, both-true}
 use Rattle.octets.proofs.OctetsLaws.{same-true}
@@ -34,9 +34,9 @@ use Rattle.pouring.proofs.PouringLaws.{entries-append}
 use Rattle.answers.specs.declared.Refusal.{Refusal}
 use Rattle.answers.specs.declared.Refusal.the-variants.{NotApplicable}
 use Rattle.payload.specs.Payload.{packet}
-use Rattle.session.specs.Session.{lastRight, isOpen, refuse, accept, withGroup, begins, arrival, offered, pourMade}
+use Rattle.session.specs.Session.{isOpen, refuse, accept, withGroup, begins, arrival, offered, pourMade}
 use Rattle.session.specs.Session.{ended, neverOpened, fresh, vacant}
-use Rattle.session.proofs.Ends.{open-has, Placed, no, again, put, first, next, Ends, refuses, places, offer-ends}
+use Rattle.session.proofs.Ends.{Placed, no, again, put, first, next, Ends, refuses, places, offer-ends}
 use Rattle.session.specs.declared.Session.{Session}
 use Rattle.session.specs.declared.Arrival.{Arrival}
 use Rattle.session.specs.declared.Offered.{Offered}
@@ -159,7 +159,7 @@ abbrev weight : Session → ℕ
 weight s = cond (isNothing holdingShape (s .group)) 0 (80 + 220 * heldBelow (s .group) 8)
 
 abbrev before : Session → ℕ
-before s = cond (s .poured) 1000 0
+before s = cond (s .poured) 3000 0
 
 weight-most : (s : Session) → weight s ≤ 80 + 220 * heldBelow (s .group) 8
 weight-most s = go (isNothing holdingShape (s .group))
@@ -172,7 +172,7 @@ weight-most s = go (isNothing holdingShape (s .group))
 data Brings (s : Session) (o : Offered) : Type 0 where
   nothing-new : (r : Refusal) → o ≡ refuse s r → Brings s o
   more : (t : Session) (lost : ℕ) → o ≡ accept t lost → t .poured ≡ s .poured → t .source ≡ s .source →
-      lost ≤ 1000 → lost + weight t ≤ weight s + 300 + before s → Brings s o
+      lost ≤ 3000 → lost + weight t ≤ weight s + 300 + before s → Brings s o
 
 -- a group that a packet begins
 begun-weight : (s : Session) (a : Arrival) →
@@ -183,23 +183,19 @@ begun-weight s a =
     let e = begun-none (s .source) (a .numbers) 8 (le-refl 8) in
     omega (arith, weight-most (withGroup s (withPacket holdingShape none (a .n) (a .packet))), with-small none (a .n) (a .packet) 8, e)
 
-placed-brings : (s : Session) (a : Arrival) (o : Offered) → lastRight holdingShape s ≡ true → Placed holdingShape s a o → Brings s o
-unfolding begins withGroup lastRight
-placed-brings s a o r (no x n e) = nothing-new x e
-placed-brings s a o r (again q e) = more s 0 e refl refl (omega arith) (omega arith)
-placed-brings s a o r (put q f i e) =
+placed-brings : (s : Session) (a : Arrival) (o : Offered) → Placed holdingShape s a o → Brings s o
+unfolding begins withGroup
+placed-brings s a o (no x n e) = nothing-new x e
+placed-brings s a o (again q e) = more s 0 e refl refl (omega arith) (omega arith)
+placed-brings s a o (put q f i e) =
     let g = s .group in
     let held : weight s ≡ 80 + 220 * heldBelow g 8 = simp q in
     more (withGroup s (withPacket holdingShape g (a .n) (a .packet))) 0 e refl refl (omega arith)
     (omega (arith, weight-most (withGroup s (withPacket holdingShape g (a .n) (a .packet))), with-small g (a .n) (a .packet) 8, held))
-placed-brings s a o r (first q p e) = more _ 0 e refl refl (omega arith) (omega (arith, begun-weight s a))
-placed-brings s a o r (next q p lost f h e) =
-    let x : (leb (s .«last_l») 7 && (leb 1 (s .«last_b») && leb (s .«last_b») 10)) ≡ true =
-    sym (ap (λ (t : Bool). cond t (leb (s .«last_l») 7 && (leb 1 (s .«last_b») && leb (s .«last_b») 10)) true) p) ∙ r in
-    let y = both-true (leb 1 (s .«last_b»)) (leb (s .«last_b») 10) (both-true (leb (s .«last_l») 7) (leb 1 (s .«last_b») && leb (s .«last_b») 10) x .1) in
-    let few : s .«last_b» ≤ 10 = leb-true _ _ (y .1) in
-    let b : before s ≡ 1000 = simp p in
-    more _ lost e refl refl (omega (arith, h, few)) (omega (arith, begun-weight s a, h, few, b))
+placed-brings s a o (first q p e) = more _ 0 e refl refl (omega arith) (omega (arith, begun-weight s a))
+placed-brings s a o (next q p lost f h e) =
+    let b : before s ≡ 3000 = simp p in
+    more _ lost e refl refl h (omega (arith, begun-weight s a, h, b))
 
 offer-brings : (v : FrameTable) (s : Session) (h : Heard) → Brings s (offeredTo v s h)
 unfolding offeredTo
@@ -208,14 +204,14 @@ offer-brings v s h = go (offered (voiceWith v) s (h .source) (h .sequence) (h .t
     go : (o : Offered) → Ends (voiceWith v) s (h .source) (h .sequence) (h .timestamp) (h .payload) o → Brings s o
     go o (refuses r n e) = nothing-new r e
     go o (places op q l n d fs r x) =
-        placed-brings s (arrival holdingShape (h .sequence) (h .timestamp) l n fs) o (open-has (voiceWith v) s op .last) x
+        placed-brings s (arrival holdingShape (h .sequence) (h .timestamp) l n fs) o x
 
 -- so the lost frames of an answer are few
-pub lost-few : (v : FrameTable) (s : Session) (h : Heard) → lostIn (offeredTo v s h .answer) ≤ 1000
+pub lost-few : (v : FrameTable) (s : Session) (h : Heard) → lostIn (offeredTo v s h .answer) ≤ 3000
 unfolding lostIn refuse accept
 lost-few v s h = go (offeredTo v s h) (offer-brings v s h)
   where
-    go : (o : Offered) → Brings s o → lostIn (o .answer) ≤ 1000
+    go : (o : Offered) → Brings s o → lostIn (o .answer) ≤ 3000
     go o (nothing-new r e) = let q : lostIn (o .answer) ≡ 0 = ap (λ (x : Offered). lostIn (x .answer)) e in omega arith
     go o (more t lost e p f l w) = let q : lostIn (o .answer) ≡ lost = ap (λ (x : Offered). lostIn (x .answer)) e in omega arith
 
@@ -261,7 +257,7 @@ data Pours (s : Session) (a : Step) : Type 0 where
 
 -- ---- a run of i packets that has recorded len octets
 abbrev cap : Bool → ℕ → ℕ
-cap poured i = cond poured (1300 * i) (300 * i)
+cap poured i = cond poured (3300 * i) (300 * i)
 
 abbrev Small : Session → ℕ → ℕ → Type 0
 Small s len i = len + weight s + before s ≤ cap (s .poured) i
@@ -272,9 +268,9 @@ then-small s len i a h b = go (s .poured) (a .session .poured) (b .same) h (b .s
     go :
         (p q : Bool) →
         q ≡ p →
-        len + weight s + cond p 1000 0 ≤ cap p i →
-        length (a .octets) + weight (a .session) ≤ weight s + 300 + cond p 1000 0 →
-        len + length (a .octets) + weight (a .session) + cond q 1000 0 ≤ cap q (i + 1)
+        len + weight s + cond p 3000 0 ≤ cap p i →
+        length (a .octets) + weight (a .session) ≤ weight s + 300 + cond p 3000 0 →
+        len + length (a .octets) + weight (a .session) + cond q 3000 0 ≤ cap q (i + 1)
     go true true e x y = omega arith
     go false false e x y = omega arith
     go true false e x y = apart (cc)
@@ -326,7 +322,7 @@ module _ (v : FrameTable) (w : T (within 22 v)) (z : T (erases v)) where
   unfolding ended
   pour-keeps s len i h = go (pouring v s) (pour-ends s)
     where
-      first : (p : Bool) → len + weight s + cond p 1000 0 ≤ cap p i → 80 ≤ weight s → len + weight s + 1000 ≤ 1300 * i
+      first : (p : Bool) → len + weight s + cond p 3000 0 ≤ cap p i → 80 ≤ weight s → len + weight s + 3000 ≤ 3300 * i
       first true x y = x
       first false x y = omega arith
 
@@ -377,10 +373,10 @@ module _ (kind : Kind) (w : T (within 22 (kind .table))) (z : T (erases (kind .t
   first-small [] = simp (nothing-is holdingShape) (omega arith)
   first-small (h ∷ hs) = simp (nothing-is holdingShape) (omega arith)
 
-  few-octets : (s : Session) (len n : ℕ) → n ≤ 256 → Small s len n → len ≤ 256 * 300 + 255 * 1000
+  few-octets : (s : Session) (len n : ℕ) → n ≤ 256 → Small s len n → len ≤ 256 * 300 + 255 * 3000
   few-octets s len n h x = go (s .poured) x
     where
-      go : (p : Bool) → len + weight s + cond p 1000 0 ≤ cap p n → len ≤ 256 * 300 + 255 * 1000
+      go : (p : Bool) → len + weight s + cond p 3000 0 ≤ cap p n → len ≤ 256 * 300 + 255 * 3000
       go true x = omega arith
       go false x = omega arith
 
@@ -389,10 +385,10 @@ module _ (kind : Kind) (w : T (within 22 (kind .table))) (z : T (erases (kind .t
     from-first : Small (runOf kind (firstSession hs) ks .session) (length (runOf kind (firstSession hs) ks .octets)) (length ks)
     from-first = rw (← zero-add (length (runOf kind (firstSession hs) ks .octets)), ← zero-add (length ks)) (run-small (firstSession hs) ks 0 0 (first-small hs))
 
-    pub run-few : length (runOf kind (firstSession hs) ks .octets) ≤ 256 * 300 + 255 * 1000
+    pub run-few : length (runOf kind (firstSession hs) ks .octets) ≤ 256 * 300 + 255 * 3000
     run-few = few-octets (runOf kind (firstSession hs) ks .session) _ (length ks) few from-first
 
-    pub all-few : length (andThen (runOf kind (firstSession hs) ks) (pouring (kind .table)) .octets) ≤ 256 * 300 + 255 * 1000
+    pub all-few : length (andThen (runOf kind (firstSession hs) ks) (pouring (kind .table)) .octets) ≤ 256 * 300 + 255 * 3000
     unfolding andThen
     all-few =
         let a = runOf kind (firstSession hs) ks in

@@ -57,7 +57,7 @@ before a b = record { session = b .session; octets = a .octets ++ b .octets; ans
 abbrev recorded : Session → List ℕ → List Taken → Step
 recorded s o w = record { session = s; octets = o; answers = w }
 
-run-append : (kind : Kind) (s : Session) (hs ks : List Heard) → runOf kind s (hs ++ ks) ≡ andThen (runOf kind s hs) (λ t. runOf kind t ks)
+pub run-append : (kind : Kind) (s : Session) (hs ks : List Heard) → runOf kind s (hs ++ ks) ≡ andThen (runOf kind s hs) (λ t. runOf kind t ks)
 unfolding runOf andThen
 run-append kind s [] ks = refl
 run-append kind s (h ∷ hs) ks =
@@ -203,7 +203,7 @@ unfolding stepOf
 step-does kind s h at d e e′ p r o x y z =
     does-then (readied kind s h) _ (λ t. offering kind t h) at d e e′ p r x (offering-is kind (p .session) h o y ∙ ap (λ (t : Session). offering kind t h) (x .session)) z
 
-pub lost-fit : (v : FrameTable) (s : Session) (h : Heard) (o : Offered) → o ≡ offeredTo v s h → lostIn (o .answer) ≤ 1000
+pub lost-fit : (v : FrameTable) (s : Session) (h : Heard) (o : Offered) → o ≡ offeredTo v s h → lostIn (o .answer) ≤ 3000
 lost-fit v s h o e = rw e (lost-few v s h)
 
 -- ---- pouring, into room for any group

@@ -130,9 +130,9 @@ unfoldable pub captureRecording : Kind → List ℕ → List ℕ
 captureRecording kind c = kind .opening ++ entriesRecorded kind (packetsIn c)
 
 -- the most octets that a recording can have: the opening, 300 for each of 256 packets that begins a group of its own, with ten frames of
--- 22 octets at 80 places, and 1,000 lost frames before each but the first
+-- 22 octets at 80 places, and 3,000 lost frames (02, ii) before each but the first
 abbrev pub largest : ℕ
-largest = 7 + 256 * 300 + 255 * 1000
+largest = 7 + 256 * 300 + 255 * 3000
 
 -- ---- what the calls promise
 

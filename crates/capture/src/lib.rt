@@ -18,7 +18,7 @@ ghost use Rattle.capture.specs.Run.{captureKind, firstSession, offeredTo
 ghost use Rattle.capture.specs.Run.{captureRecording, Put, Does, recordAnswer, recordOutput, packetAnswered, answerOf};
 
 // The most octets that the recording of a capture can have.
-pub const LARGEST: usize = 331807;
+pub const LARGEST: usize = 841807;
 
 // Zeros, as many as the largest recording has octets: room for the recording of any capture.
 pub fn room() -> [u8; LARGEST]
@@ -198,7 +198,7 @@ fn pour_group(run: Run, out: &mut [u8]) -> Run
 
 // The run after an offer: lost frames are recorded as erasures, and a refusal leaves it as it was.
 fn take(run: Run, offered: Offered, out: &mut [u8]) -> Run
-    requires { ⌜ (run .octets ≤ 2 * largest) × (lostIn (offered .answer) ≤ 1000) ⌝ }
+    requires { ⌜ (run .octets ≤ 2 * largest) × (lostIn (offered .answer) ≤ 3000) ⌝ }
     ensures { λ r. ⌜ Does (takenOf captureKind (run .session) (offered .session) (offered .answer)) (run .octets) (now (out .entry)) r (now (out .exit)) ⌝ }
 {
     let at = run.octets;

@@ -39,6 +39,7 @@ pub(crate) fn say_text(number: u8) {
         19 => say(b"body cut"),
         20 => say(b"not the same group"),
         21 => say(b"not applicable"),
+        24 => say(b"off the clock"),
         _ => say(b"no such answer"),
     }
 }

@@ -29,13 +29,14 @@ unfoldable pub described : Voice → Holding → Described
 described v h =
     cond (holds v h) (Group (h .source) (numbersOf h) (bitsOf (h .held))) (Refused NotApplicable)
 
--- "the answer reports e x B lost frames before it", or refuses; a group that comes after a poured one does not belong to it
+-- "the answer reports .. lost frames before it", or refuses; a group that comes after a poured one does not belong to it
 unfoldable pub lostBy : Verdict → Lost
 lostBy (verdict.Begins n) = lost.Frames n
 lostBy verdict.Belongs = lost.Frames 0
 lostBy (verdict.Refused r) = lost.Refused r
 
--- the lost frames between two groups, by the rule of a session that poured the first: 21, "another source" (10), then 13, 16
+-- the lost frames between two groups, by the rule of a session that poured the first: 21, "another source" (10), then (02, ii)
+-- "order 13, 24, 16"
 unfoldable pub lostBetween : Voice → Holding → Holding → Lost
 lostBetween v before after =
     cond (holds v before && holds v after)

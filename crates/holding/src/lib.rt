@@ -355,7 +355,7 @@ fn lost_by(verdict: Verdict) -> Lost
 }
 
 // The lost frames between the group of one holding and that of a later one, as a session reports them that poured the first:
-// 21 if either holds no packet, 10 if their sources differ, then 13, 16.
+// 21 if either holds no packet, 10 if their sources differ, then 13, 24, 16.
 pub fn lost_between(before: Holding, after: Holding) -> Lost
     ensures { λ r. ⌜ r ≡ lostBetween (voiceIn before) before after ⌝ }
 {

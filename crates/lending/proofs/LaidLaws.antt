@@ -24,8 +24,8 @@ use Rattle.session.specs.declared.Session.{Session}
 use Rattle.lending.specs.Laid.{flagOctet, isSet, isLong, isLaid, numberOctets, frameOctets, holdingOctets, holdingAt, isHolding}
 use Rattle.lending.specs.Laid.{holdingIn, holdingLaid, formOctets, formAt, lastOctets, sessionHead, sessionLaid, sessionAt}
 use Rattle.lending.specs.Laid.{isSession, sessionIn}
-use Rattle.lending.proofs.Pieces.{A, B, C, D, F, N, M, O, G, S, P, Q, length-ab, length-abc, length-abcd, length-numbers, length-f}
-use Rattle.lending.proofs.Pieces.{length-fn, length-fnm, length-holding, length-og, length-ogs, length-ogsp, length-ogspq}
+use Rattle.lending.proofs.Pieces.{A, B, C, D, F, N, M, O, G, S, P, Q, K, E, Z, T, length-ab, length-abc, length-abcd, length-numbers, length-f}
+use Rattle.lending.proofs.Pieces.{length-fn, length-fnm, length-holding, length-og, length-ogs, length-ogsp, length-ke, length-kez, length-ogspq}
 use Rattle.lending.proofs.Pieces.{length-head, length-grouped}
 
 -- ---- one piece more behind what was laid out: both are laid out together
@@ -141,18 +141,21 @@ holding-read o at h a b c d e f g i = same-fields a b c d e f g i
 
 -- ---- the numbers of the last poured group
 module _ (s : Session) (d : List ℕ) (le : 9 ≤ length d) where
-  pub last-laid : (e f : List ℕ) → s .poured ≡ true → e ≡ over d 9 (twoOctets (s .«last_sequence»)) → f ≡ over e 11 (s .«last_l» ∷ s .«last_b» ∷ []) → f ≡ over d 9 (lastOctets s)
+  pub last-laid : (o₁ o₂ o₃ o₄ : List ℕ) → s .poured ≡ true → o₁ ≡ over d 9 (twoOctets (s .«last_sequence»)) → o₂ ≡ over o₁ 11 (s .«last_l» ∷ s .«last_b» ∷ [])
+      → o₃ ≡ over o₂ 13 (replicate 3 0) → o₄ ≡ over o₃ 16 (fourOctets (s .«last_timestamp»)) → o₄ ≡ over d 9 (lastOctets s)
   unfolding lastOctets
-  last-laid e f b p q =
-      lay-more d e f 9 11 (twoOctets (s .«last_sequence»)) (s .«last_l» ∷ s .«last_b» ∷ []) le p (omega (arith, length-two (s .«last_sequence»))) q ∙ simp b
+  last-laid o₁ o₂ o₃ o₄ b e₁ e₂ e₃ e₄ =
+      let s₂ = lay-more d o₁ o₂ 9 11 (K s) (E s) le e₁ (omega (arith, length-two (s .«last_sequence»))) e₂ in
+      let s₃ = lay-more d o₂ o₃ 9 13 (K s ++ E s) (Z s) le s₂ (omega (arith, length-ke s)) e₃ in
+      lay-more d o₃ o₄ 9 16 (K s ++ E s ++ Z s) (T s) le s₃ (omega (arith, length-kez s)) e₄ ∙ simp b
 
-  pub none-laid : (e : List ℕ) → s .poured ≡ false → e ≡ over d 9 (replicate 4 0) → e ≡ over d 9 (lastOctets s)
+  pub none-laid : (e : List ℕ) → s .poured ≡ false → e ≡ over d 9 (replicate 11 0) → e ≡ over d 9 (lastOctets s)
   unfolding lastOctets
   none-laid e b p = p ∙ simp b
 
 -- ---- all of a session but its group
 pub head-laid : (s : Session) (d o₁ o₂ o₃ o₄ o₅ o₆ : List ℕ) → o₁ ≡ over d 0 (flagOctet (s .«open») ∷ []) → o₂ ≡ over o₁ 1 (formOctets (s .form)) → o₃ ≡ over o₂ 4 (fourOctets (s .source))
-    → o₄ ≡ over o₃ 8 (flagOctet (s .poured) ∷ []) → o₅ ≡ over o₄ 9 (lastOctets s) → o₆ ≡ over o₅ 13 (replicate 19 0)
+    → o₄ ≡ over o₃ 8 (flagOctet (s .poured) ∷ []) → o₅ ≡ over o₄ 9 (lastOctets s) → o₆ ≡ over o₅ 20 (replicate 12 0)
     → o₆ ≡ over d 0 (sessionHead s)
 unfolding sessionHead
 head-laid s d o₁ o₂ o₃ o₄ o₅ o₆ e₁ e₂ e₃ e₄ e₅ e₆ =
@@ -161,7 +164,7 @@ head-laid s d o₁ o₂ o₃ o₄ o₅ o₆ e₁ e₂ e₃ e₄ e₅ e₆ =
     let s₃ = lay-more d o₂ o₃ 0 4 (O s ++ G s) (S s) le s₂ (omega (arith, length-og s)) e₃ in
     let s₄ = lay-more d o₃ o₄ 0 8 (O s ++ G s ++ S s) (P s) le s₃ (omega (arith, length-ogs s)) e₄ in
     let s₅ = lay-more d o₄ o₅ 0 9 (O s ++ G s ++ S s ++ P s) (Q s) le s₄ (omega (arith, length-ogsp s)) e₅ in
-    lay-more d o₅ o₆ 0 13 (O s ++ G s ++ S s ++ P s ++ Q s) (replicate 19 0) le s₅ (omega (arith, length-ogspq s)) e₆
+    lay-more d o₅ o₆ 0 20 (O s ++ G s ++ S s ++ P s ++ Q s) (replicate 12 0) le s₅ (omega (arith, length-ogspq s)) e₆
 
 -- ---- in all 2,304 octets
 pub all-of-holding : (h : Holding) → Shaped holdingShape h → (d e f : List ℕ) → e ≡ over d 0 (holdingOctets h) → f ≡ over e 1872 (replicate 432 0) → f ≡ over d 0 (holdingLaid h)
@@ -228,12 +231,12 @@ module _ (o : List ℕ) (s : Session) where
   unfolding sessionIn isSession isLaid
   session-short k n = n ∙ simp (too-short o k)
 
-same-session : {o o′ p p′ : Bool} {s s′ q q′ l l′ b b′ : ℕ} {f f′ : Form} {g g′ : Holding} → o ≡ o′ → s ≡ s′ → f ≡ f′ → g ≡ g′ → p ≡ p′ → q ≡ q′ → l ≡ l′ → b ≡ b′
-    → _≡_ {A = Session} (record { «open» = o; source = s; form = f; group = g; poured = p; «last_sequence» = q; «last_l» = l; «last_b» = b })
-    (record { «open» = o′; source = s′; form = f′; group = g′; poured = p′; «last_sequence» = q′; «last_l» = l′; «last_b» = b′ })
-same-session a b c d e f g h = cc
+same-session : {o o′ p p′ : Bool} {s s′ q q′ t t′ l l′ b b′ : ℕ} {f f′ : Form} {g g′ : Holding} → o ≡ o′ → s ≡ s′ → f ≡ f′ → g ≡ g′ → p ≡ p′ → q ≡ q′ → t ≡ t′ → l ≡ l′ → b ≡ b′
+    → _≡_ {A = Session} (record { «open» = o; source = s; form = f; group = g; poured = p; «last_sequence» = q; «last_timestamp» = t; «last_l» = l; «last_b» = b })
+    (record { «open» = o′; source = s′; form = f′; group = g′; poured = p′; «last_sequence» = q′; «last_timestamp» = t′; «last_l» = l′; «last_b» = b′ })
+same-session a b c d e f g h i = cc
 
 pub session-read : (o : List ℕ) (s : Session) → s .«open» ≡ eqb (getD o 0 0) 1 → s .source ≡ fourAt o 4 → s .form ≡ formAt o 1 → s .group ≡ holdingAt o 32 → s .poured ≡ eqb (getD o 8 0) 1
-    → s .«last_sequence» ≡ twoAt o 9 → s .«last_l» ≡ getD o 11 0 → s .«last_b» ≡ getD o 12 0 → s ≡ sessionAt o
+    → s .«last_sequence» ≡ twoAt o 9 → s .«last_timestamp» ≡ fourAt o 16 → s .«last_l» ≡ getD o 11 0 → s .«last_b» ≡ getD o 12 0 → s ≡ sessionAt o
 unfolding sessionAt
-session-read o s a b c d e f g h = same-session a b c d e f g h
+session-read o s a b c d e f g h i = same-session a b c d e f g h i

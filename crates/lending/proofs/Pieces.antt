@@ -99,6 +99,19 @@ module _ (s : Session) where
   abbrev pub Q : List ℕ
   Q = lastOctets s
 
+  -- the numbers of the last poured group, if there is one
+  abbrev pub K : List ℕ
+  K = twoOctets (s .«last_sequence»)
+
+  abbrev pub E : List ℕ
+  E = s .«last_l» ∷ s .«last_b» ∷ []
+
+  abbrev pub Z : List ℕ
+  Z = replicate 3 0
+
+  abbrev pub T : List ℕ
+  T = fourOctets (s .«last_timestamp»)
+
   pub length-og : length (O ++ G) ≡ 4
   length-og = length-append O G ∙ omega (arith, length-form (s .form))
 
@@ -108,20 +121,26 @@ module _ (s : Session) where
   pub length-ogsp : length (O ++ G ++ S ++ P) ≡ 9
   length-ogsp = length-append (O ++ G ++ S) P ∙ omega (arith, length-ogs)
 
-  pub length-last : length Q ≡ 4
+  pub length-ke : length (K ++ E) ≡ 4
+  length-ke = length-append K E ∙ omega (arith, length-two (s .«last_sequence»))
+
+  pub length-kez : length (K ++ E ++ Z) ≡ 7
+  length-kez = length-append (K ++ E) Z ∙ omega (arith, length-ke)
+
+  pub length-last : length Q ≡ 11
   unfolding lastOctets
   length-last = go (s .poured)
     where
-      go : (b : Bool) → length (cond b (twoOctets (s .«last_sequence») ++ (s .«last_l» ∷ s .«last_b» ∷ [])) (replicate 4 0)) ≡ 4
-      go true = length-append (twoOctets (s .«last_sequence»)) (s .«last_l» ∷ s .«last_b» ∷ []) ∙ omega (arith, length-two (s .«last_sequence»))
+      go : (b : Bool) → length (cond b (K ++ E ++ Z ++ T) (replicate 11 0)) ≡ 11
+      go true = length-append (K ++ E ++ Z) T ∙ ap₂ _+_ length-kez (length-four (s .«last_timestamp»))
       go false = refl
 
-  pub length-ogspq : length (O ++ G ++ S ++ P ++ Q) ≡ 13
+  pub length-ogspq : length (O ++ G ++ S ++ P ++ Q) ≡ 20
   length-ogspq = length-append (O ++ G ++ S ++ P) Q ∙ ap₂ _+_ length-ogsp length-last
 
   pub length-head : length (sessionHead s) ≡ 32
   unfolding sessionHead
-  length-head = length-append (O ++ G ++ S ++ P ++ Q) (replicate 19 0) ∙ omega (arith, length-ogspq)
+  length-head = length-append (O ++ G ++ S ++ P ++ Q) (replicate 12 0) ∙ omega (arith, length-ogspq)
 
   pub length-grouped : Shaped holdingShape (s .group) → length (sessionHead s ++ holdingOctets (s .group)) ≡ 1904
   length-grouped x = length-append (sessionHead s) (holdingOctets (s .group)) ∙ ap₂ _+_ length-head (length-holding (s .group) x)

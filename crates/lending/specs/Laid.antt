@@ -86,15 +86,18 @@ unfoldable pub formAt : List ℕ → ℕ → Form
 formAt o at =
     cond (isSet (getD o at 0)) (Interleaved (record { «max_l» = getD o (at + 1) 0; «max_b» = getD o (at + 2) 0 })) HeaderFree
 
--- the numbers of the last poured group, which are zero where none was
+-- the numbers of the last poured group, which are zero where none was: octets 9 to 19, of which 13 to 15 stand for nothing
 unfoldable pub lastOctets : Session → List ℕ
-lastOctets s = cond (s .poured) (twoOctets (s .«last_sequence») ++ (s .«last_l» ∷ s .«last_b» ∷ [])) (replicate 4 0)
+lastOctets s =
+    cond (s .poured)
+    (twoOctets (s .«last_sequence») ++ (s .«last_l» ∷ s .«last_b» ∷ []) ++ replicate 3 0 ++ fourOctets (s .«last_timestamp»))
+    (replicate 11 0)
 
--- what stands before the held group: octets 0 to 31, of which the last nineteen stand for nothing
+-- what stands before the held group: octets 0 to 31, of which the last twelve stand for nothing
 unfoldable pub sessionHead : Session → List ℕ
 sessionHead s =
     (flagOctet (s .«open») ∷ []) ++ formOctets (s .form) ++ fourOctets (s .source) ++ (flagOctet (s .poured) ∷ []) ++
-    lastOctets s ++ replicate 19 0
+    lastOctets s ++ replicate 12 0
 
 -- a session in 2,304 octets
 unfoldable pub sessionLaid : Session → List ℕ
@@ -110,6 +113,7 @@ sessionAt o =
       group = holdingAt o 32;
       poured = isSet (getD o 8 0);
       «last_sequence» = twoAt o 9;
+      «last_timestamp» = fourAt o 16;
       «last_l» = getD o 11 0;
       «last_b» = getD o 12 0;
     }

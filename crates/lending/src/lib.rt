@@ -220,14 +220,16 @@ fn put_form(out: &mut [u8], at: usize, form: Form)
 
 // Lays out the numbers of the last poured group, or zeros where none was.
 fn put_last(out: &mut [u8], session: Session)
-    requires { ⌜ 13 ≤ length (now out) ⌝ }
+    requires { ⌜ 20 ≤ length (now out) ⌝ }
     ensures { λ _. ⌜ now (out .exit) ≡ over (now (out .entry)) 9 (lastOctets session) ⌝ }
 {
     if session.poured {
         octets::put_two(out, 9, session.last_sequence);
         put_pair(out, 11, session.last_l, session.last_b);
+        octets::fill(out, 13, 3, 0);
+        octets::put_four(out, 16, session.last_timestamp);
     } else {
-        octets::fill(out, 9, 4, 0);
+        octets::fill(out, 9, 11, 0);
     }
 }
 
@@ -242,7 +244,7 @@ fn put_head(out: &mut [u8], session: Session)
     octets::put_four(out, 4, session.source);
     put_flag(out, 8, session.poured);
     put_last(out, session);
-    octets::fill(out, 13, 19, 0);
+    octets::fill(out, 20, 12, 0);
 }
 
 // Lays a session out in all 2,304 octets.
@@ -283,6 +285,7 @@ fn session_at(lent: &[u8]) -> Session
         group,
         poured: lent[8] == 1,
         last_sequence: octets::two(lent, 9),
+        last_timestamp: octets::four(lent, 16),
         last_l: lent[11],
         last_b: lent[12],
     }

@@ -1,17 +1,17 @@
 -- The place of a packet by its numbers, check by check. Assumes nothing.
-use Prim.Native.Nat.{ℕ, _*_, _≤_, _<_}
+use Prim.Native.Nat.{ℕ, _+_, _*_, _/_, _%_, _≤_, _<_}
 use mathlib.Core.Bool.{Bool, true, false, not, cond, _||_}
-use mathlib.Core.Path.{_≡_, refl, ap, _∙_}
+use mathlib.Core.Path.{_≡_, refl, sym, ap, _∙_}
 use native.Mathlib.Omega.{arith}
-use native.Mathlib.Nat.{mul-le-mul, le-refl}
+use native.Mathlib.Nat.{mul-le-mul}
 use lib.Dec.{eqb, leb, ltb}
 use mir.Val.{Fits}
-use mir.Syntax.{w64}
+use mir.Syntax.{w32}
 use borrow.Author.Tests.{eq-eqb, ne-eqb, eqb-true, le-leb, lt-leb, lt-ltb, le-ltb, ltb-false}
 use Rattle.answers.specs.Answers.{numberOf}
 use Rattle.answers.specs.declared.Refusal.{Refusal}
-use Rattle.answers.specs.declared.Refusal.the-variants.{ContradictsGroup, LaterGroup, EarlierGroup, TooFarAhead}
-use Rattle.numbers.specs.Place.{differ, atDistance, distance, withHeld, afterGap, gap, afterPoured, decided}
+use Rattle.answers.specs.declared.Refusal.the-variants.{ContradictsGroup, LaterGroup, EarlierGroup, TooFarAhead, OffTheClock}
+use Rattle.numbers.specs.Place.{differ, atDistance, distance, withHeld, gap, pause, afterPause, afterPoured, decided}
 use Rattle.numbers.specs.declared.GroupNumbers.{GroupNumbers}
 use Rattle.numbers.specs.declared.Before.{Before}
 use Rattle.numbers.specs.declared.Before.the-variants.{Nothing, Poured, Held}
@@ -60,23 +60,39 @@ module _ (held new : GroupNumbers) (d : ℕ) (e : d ≡ distance held new) where
       unfolding atDistance
       earlier h = at (Refused EarlierGroup) (simp (ne-eqb d 0 n, lt-leb _ _ m, lt-leb d 32767 h))
 
+-- ---- the pause, in counts of the clock
+-- what a group of any L and B lasts, in frames and in counts
+pub frames-fit : (l b : ℕ) → l ≤ 255 → b ≤ 255 → Fits w32 ((l + 1) * b)
+frames-fit l b h k = omega (arith, mul-le-mul {n₁ = l + 1} {m₁ = b} {n₂ = 256} {m₂ = 255} (omega arith) k)
+
+pub counts-fit : (l b : ℕ) → l ≤ 255 → b ≤ 255 → Fits w32 (160 * ((l + 1) * b))
+counts-fit l b h k = omega (arith, mul-le-mul {n₁ = l + 1} {m₁ = b} {n₂ = 256} {m₂ = 255} (omega arith) k)
+
+module _ (p : ℕ) where
+  pub off-the-clock : (p % 160 ≡ 0 → ⊥) → Refused OffTheClock ≡ afterPause p
+  unfolding afterPause
+  off-the-clock n = simp (ne-eqb _ _ n)
+
+  module _ (z : p % 160 ≡ 0) where
+    pub too-far : 3000 < p / 160 → Refused TooFarAhead ≡ afterPause p
+    unfolding afterPause
+    too-far h = simp (eq-eqb _ _ z, lt-ltb 3000 _ h)
+
+    pub whole-frames : p / 160 ≤ 3000 → Begins (p / 160) ≡ afterPause p
+    unfolding afterPause
+    whole-frames h = simp (eq-eqb _ _ z, le-ltb 3000 _ h)
+
 -- ---- the distance from the end of the last poured group
 module _ (poured new : GroupNumbers) (e : ℕ) (q : e ≡ gap poured new) where
-  after : (r : Verdict) → r ≡ afterGap poured e → r ≡ afterPoured poured new
+  by-gap : (b : Bool) → leb 32768 e ≡ b → cond b (Refused EarlierGroup) (afterPause (pause poured new)) ≡ afterPoured poured new
   unfolding afterPoured
-  after r s = s ∙ ap (afterGap poured) q
+  by-gap b z = ap (λ (x : Bool). cond x (Refused EarlierGroup) (afterPause (pause poured new))) (sym z ∙ ap (leb 32768) q)
 
   pub before-poured : 32768 ≤ e → Refused EarlierGroup ≡ afterPoured poured new
-  unfolding afterGap
-  before-poured h = after (Refused EarlierGroup) (simp (le-leb 32768 e h))
+  before-poured h = by-gap true (le-leb 32768 e h)
 
-  pub too-far : e < 32768 → 100 < e → Refused TooFarAhead ≡ afterPoured poured new
-  unfolding afterGap
-  too-far h k = after (Refused TooFarAhead) (simp (lt-leb 32768 e h, lt-ltb 100 e k))
-
-  pub begins-next : e < 32768 → e ≤ 100 → Begins (e * poured .b) ≡ afterPoured poured new
-  unfolding afterGap
-  begins-next h k = after (Begins (e * poured .b)) (simp (lt-leb 32768 e h, le-ltb 100 e k))
+  pub by-clock : e < 32768 → (p : ℕ) (w : Verdict) → p ≡ pause poured new → w ≡ afterPause p → w ≡ afterPoured poured new
+  by-clock h p w i j = j ∙ ap afterPause i ∙ by-gap false (lt-leb 32768 e h)
 
 -- ---- in each case
 module _ (group : Before) (new : GroupNumbers) where
@@ -91,10 +107,6 @@ module _ (group : Before) (new : GroupNumbers) where
   pub one-held : (held : GroupNumbers) → group ≡ Held held → withHeld held new ≡ decided group new
   unfolding decided
   one-held held e = rw e refl
-
--- the lost frames fit
-pub lost-fits : (e b : ℕ) → e ≤ 100 → b ≤ 255 → Fits w64 (e * b)
-lost-fits e b h k = omega (arith, mul-le-mul {n₁ = e} {m₁ = b} {n₂ = 100} {m₂ = 255} h k)
 
 -- ---- how a verdict comes out
 pub data HeldEnds (held new : GroupNumbers) (w : Verdict) : Type 0 where
@@ -125,18 +137,19 @@ held-ends held new = by-distance (eqb d 0) (leb d (held .l)) (leb d 32767)
 
 pub data PouredEnds (poured new : GroupNumbers) (w : Verdict) : Type 0 where
   refused : (r : Refusal) → eqb (numberOf r) 12 ≡ false → w ≡ Refused r → PouredEnds poured new w
-  follows : (lost : ℕ) → lost ≡ gap poured new * poured .b → lost ≤ 100 * poured .b → w ≡ Begins lost → PouredEnds poured new w
+  follows : (lost : ℕ) → lost ≡ pause poured new / 160 → lost ≤ 3000 → w ≡ Begins lost → PouredEnds poured new w
 
 pub poured-ends : (poured new : GroupNumbers) → PouredEnds poured new (afterPoured poured new)
-unfolding afterPoured afterGap
-poured-ends poured new = by-gap (leb 32768 e) (ltb 100 e) refl
+unfolding afterPoured afterPause
+poured-ends poured new = by-tests (leb 32768 (gap poured new)) (eqb (p % 160) 0) (ltb 3000 (p / 160)) refl
   where
-    e : ℕ
-    e = gap poured new
+    p : ℕ
+    p = pause poured new
 
-    by-gap : (x y : Bool) → ltb 100 e ≡ y
-        → PouredEnds poured new (cond x (Refused EarlierGroup) (cond y (Refused TooFarAhead) (Begins (e * poured .b))))
-    by-gap true y q = refused EarlierGroup refl refl
-    by-gap false true q = refused TooFarAhead refl refl
-    by-gap false false q =
-        follows (e * poured .b) refl (mul-le-mul {n₁ = e} {m₁ = poured .b} {n₂ = 100} {m₂ = poured .b} (ltb-false 100 e q) (le-refl _)) refl
+    by-tests : (x y z : Bool) → ltb 3000 (p / 160) ≡ z
+        → PouredEnds poured new
+        (cond x (Refused EarlierGroup) (cond y (cond z (Refused TooFarAhead) (Begins (p / 160))) (Refused OffTheClock)))
+    by-tests true y z q = refused EarlierGroup refl refl
+    by-tests false false z q = refused OffTheClock refl refl
+    by-tests false true true q = refused TooFarAhead refl refl
+    by-tests false true false q = follows (p / 160) refl (ltb-false 3000 (p / 160) q) refl

@@ -1,8 +1,8 @@
--- Document 01, "Session": what numbers alone decide of the place of a packet.
-use Prim.Native.Nat.{ℕ, _+_, _*_}
+-- Document 01, "Session", and document 02, (ii): what numbers alone decide of the place of a packet.
+use Prim.Native.Nat.{ℕ, _+_, _*_, _/_, _%_}
 use mathlib.Core.Bool.{Bool, not, cond, _||_}
 use lib.Dec.{eqb, leb, ltb}
-use Rattle.answers.specs.declared.Refusal.the-variants.{ContradictsGroup, LaterGroup, EarlierGroup, TooFarAhead}
+use Rattle.answers.specs.declared.Refusal.the-variants.{ContradictsGroup, LaterGroup, EarlierGroup, TooFarAhead, OffTheClock}
 use Rattle.numbers.specs.Bases.{minus}
 use Rattle.numbers.specs.declared.GroupNumbers.{GroupNumbers}
 use Rattle.numbers.specs.declared.Before.{Before}
@@ -34,18 +34,28 @@ withHeld held new = atDistance held new (distance held new)
 
 -- ---- with none held
 
--- "e of 32,768 or more, 13; else e over 100, 16; else the packet begins a group and the answer reports e x B lost frames before it"
-unfoldable pub afterGap : GroupNumbers → ℕ → Verdict
-afterGap poured e =
-    cond (leb 32768 e) (Refused EarlierGroup) (cond (ltb 100 e) (Refused TooFarAhead) (Begins (e * poured .b)))
-
 -- "e = new base - (b + L + 1) modulo 65,536"
 abbrev pub gap : GroupNumbers → GroupNumbers → ℕ
 gap poured new = minus 16 (new .sequence) (poured .sequence + (poured .l + 1))
 
--- "With no group held but one poured before (base b, length L, bundle B)"
+-- when a group's frames end: (02, ii) "old base timestamp + 160 x (L + 1) x B"
+abbrev pub groupEnd : GroupNumbers → ℕ
+groupEnd g = g .timestamp + 160 * ((g .l + 1) * g .b)
+
+-- (02, ii) "(new base timestamp - (old base timestamp + 160 x (L + 1) x B)) modulo 4,294,967,296", "with the poured group's numbers"
+abbrev pub pause : GroupNumbers → GroupNumbers → ℕ
+pause poured new = minus 32 (new .timestamp) (groupEnd poured)
+
+-- (02, ii) "new 24 if the difference is no multiple of 160"; "16 is given if the quotient is over 3,000 (one minute)"; else "The lost
+-- frames before a new group become" the quotient
+unfoldable pub afterPause : ℕ → Verdict
+afterPause p =
+    cond (eqb (p % 160) 0) (cond (ltb 3000 (p / 160)) (Refused TooFarAhead) (Begins (p / 160))) (Refused OffTheClock)
+
+-- "With no group held but one poured before (base b, length L, bundle B)": "e of 32,768 or more, 13"; (02, ii) "13 stays", and the pause
+-- decides: "order 13, 24, 16"
 unfoldable pub afterPoured : GroupNumbers → GroupNumbers → Verdict
-afterPoured poured new = afterGap poured (gap poured new)
+afterPoured poured new = cond (leb 32768 (gap poured new)) (Refused EarlierGroup) (afterPause (pause poured new))
 
 -- ---- in each case
 

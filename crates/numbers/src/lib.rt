@@ -1,8 +1,9 @@
-// Numbers of groups (document 01, "Groups" and "Session"): base numbers, and what numbers alone decide of the place of a packet.
+// Numbers of groups (document 01, "Groups" and "Session"; document 02, (ii)): base numbers, and what numbers alone decide of the place of
+// a packet.
 use answers::Refusal;
 ghost use mathlib.Core.Path.{_≡_};
 ghost use Rattle.numbers.specs.Bases.{baseSequence, baseTimestamp};
-ghost use Rattle.numbers.specs.Place.{differ, withHeld, afterPoured, decided};
+ghost use Rattle.numbers.specs.Place.{differ, withHeld, pause, afterPause, afterPoured, decided};
 
 // The numbers that the packets of a group share: base sequence number, base timestamp, L and B.
 pub struct GroupNumbers {
@@ -77,7 +78,31 @@ pub fn with_held(held: GroupNumbers, new: GroupNumbers) -> Verdict
     Verdict::Refused(Refusal::EarlierGroup)
 }
 
-// With none held but one poured before: the distance from its end decides.
+// The counts of the clock from the end of the poured group, 160 to a frame, to the beginning of the new one.
+fn pause(poured: GroupNumbers, new: GroupNumbers) -> u32
+    ensures { λ r. ⌜ r ≡ pause poured new ⌝ }
+{
+    let packets = poured.l as u32 + 1;
+    let frames = packets * (poured.b as u32);
+    let end = std::num::wrapping_add_u32(poured.timestamp, 160 * frames);
+    std::num::wrapping_sub_u32(new.timestamp, end)
+}
+
+// After a pause of so many counts: whole frames, and a minute at most.
+fn after_pause(counts: u32) -> Verdict
+    ensures { λ r. ⌜ r ≡ afterPause counts ⌝ }
+{
+    if counts % 160 != 0 {
+        return Verdict::Refused(Refusal::OffTheClock);
+    }
+    let lost = counts / 160;
+    if 3000 < lost {
+        return Verdict::Refused(Refusal::TooFarAhead);
+    }
+    Verdict::Begins(lost as usize)
+}
+
+// With none held but one poured before: by its sequence number the packet may come too late; else the clock decides.
 pub fn after_poured(poured: GroupNumbers, new: GroupNumbers) -> Verdict
     ensures { λ r. ⌜ r ≡ afterPoured poured new ⌝ }
 {
@@ -87,10 +112,7 @@ pub fn after_poured(poured: GroupNumbers, new: GroupNumbers) -> Verdict
     if 32768 <= gap {
         return Verdict::Refused(Refusal::EarlierGroup);
     }
-    if 100 < gap {
-        return Verdict::Refused(Refusal::TooFarAhead);
-    }
-    Verdict::Begins(gap as usize * poured.b as usize)
+    after_pause(pause(poured, new))
 }
 
 // The place of a packet: with a group held, with one poured before, or with none before.

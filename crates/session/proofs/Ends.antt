@@ -1,5 +1,5 @@
 -- How an offer ends: the one walk over its checks, from which all that holds of every offer is read off. Assumes nothing.
-use Prim.Native.Nat.{ℕ, _*_, _≤_}
+use Prim.Native.Nat.{ℕ, _/_, _≤_}
 use mathlib.Core.Bool.{Bool, true, false, cond, _&&_}
 use mathlib.Core.Path.{_≡_, refl, sym, subst, _∙_}
 use mathlib.Core.List.{List}
@@ -13,7 +13,7 @@ use Rattle.answers.specs.declared.Refusal.{Refusal}
 use Rattle.answers.specs.declared.Refusal.the-variants.{AnotherSource, PacketDiffers, NotApplicable}
 use Rattle.payload.specs.Payload.{Reading, packet, refusedPayload, readAs}
 use Rattle.payload.proofs.Faulting.{never-later}
-use Rattle.numbers.specs.Place.{gap, withHeld, afterPoured, decided}
+use Rattle.numbers.specs.Place.{pause, withHeld, afterPoured, decided}
 use Rattle.numbers.specs.declared.Before.the-variants as before
 use Rattle.numbers.specs.declared.Verdict.{Verdict}
 use Rattle.numbers.proofs.PlaceLaws.{HeldEnds, held-ends, PouredEnds, poured-ends}
@@ -54,8 +54,8 @@ pub data Placed (u : Shape) (s : Session) (a : Arrival) (o : Offered) : Type 0 w
   put : isNothing u (s .group) ≡ false → a .numbers .l ≡ s .group .l → a .numbers .b ≡ s .group .b
       → o ≡ accept (withGroup s (withPacket u (s .group) (a .n) (a .packet))) 0 → Placed u s a o
   first : isNothing u (s .group) ≡ true → s .poured ≡ false → o ≡ begins u s a 0 → Placed u s a o
-  next : isNothing u (s .group) ≡ true → s .poured ≡ true → (lost : ℕ) → lost ≡ gap (lastNumbers s) (a .numbers) * s .«last_b»
-      → lost ≤ 100 * s .«last_b» → o ≡ begins u s a lost → Placed u s a o
+  next : isNothing u (s .group) ≡ true → s .poured ≡ true → (lost : ℕ) → lost ≡ pause (lastNumbers s) (a .numbers) / 160
+      → lost ≤ 3000 → o ≡ begins u s a lost → Placed u s a o
 
 module _ (u : Shape) (s : Session) (a : Arrival) where
   -- it belongs to the held group
@@ -98,14 +98,14 @@ pub data Seen (s : Session) (lost : ℕ) (o : Offered) : Type 0 where
   took : (t : Session) → o ≡ accept t lost → Seen s lost o
 
 pub seen : (u : Shape) (s : Session) (a : Arrival) (o : Offered) → Placed u s a o
-    → Seen s (cond (isNothing u (s .group) && s .poured) (gap (lastNumbers s) (a .numbers) * s .«last_b») 0) o
+    → Seen s (cond (isNothing u (s .group) && s .poured) (pause (lastNumbers s) (a .numbers) / 160) 0) o
 unfolding begins
 seen u s a o (no r n e) = kept r e
 seen u s a o (again q e) = rw q (took s e)
 seen u s a o (put q f g e) = rw q (took _ e)
 seen u s a o (first q p e) = rw (q, p) (took _ e)
 seen u s a o (next q p lost f h e) =
-    let m = gap (lastNumbers s) (a .numbers) * s .«last_b» in
+    let m = pause (lastNumbers s) (a .numbers) / 160 in
     let z : cond (isNothing u (s .group) && s .poured) m 0 ≡ m = simp (q, p) in
     subst (λ (m : ℕ). Seen s m o) (f ∙ sym z) (took _ e)
 

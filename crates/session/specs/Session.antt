@@ -49,6 +49,7 @@ vacant shape isOpen source form =
       group = nothing shape;
       poured = false;
       «last_sequence» = 0;
+      «last_timestamp» = 0;
       «last_l» = 0;
       «last_b» = 0;
     }
@@ -72,7 +73,7 @@ openedFor shape s source form =
     cond (formRight form) (record { answer = answer.Done; session = fresh shape source form })
     (record { answer = answer.Refused NotApplicable; session = s })
 
--- "the L or B of its last poured group is out of these ranges", if there is one
+-- "the L or B of its last poured group is out of these ranges", if there is one; any base timestamp is in range
 unfoldable pub lastRight : Shape → Session → Bool
 lastRight shape s = cond (s .poured) (leb (s .«last_l») (shape .greatest) && (leb 1 (s .«last_b») && leb (s .«last_b») 10)) true
 
@@ -104,14 +105,15 @@ withGroup s h =
       group = h;
       poured = s .poured;
       «last_sequence» = s .«last_sequence»;
+      «last_timestamp» = s .«last_timestamp»;
       «last_l» = s .«last_l»;
       «last_b» = s .«last_b»;
     }
 
--- the numbers of the last poured group; its base timestamp is not remembered, as it decides nothing
+-- the numbers of the last poured group: (02, ii) "with the poured group's numbers"
 unfoldable pub lastNumbers : Session → GroupNumbers
 lastNumbers s =
-    record { sequence = s .«last_sequence»; timestamp = 0; l = s .«last_l»; b = s .«last_b» }
+    record { sequence = s .«last_sequence»; timestamp = s .«last_timestamp»; l = s .«last_l»; b = s .«last_b» }
 
 -- "with a group held", "With no group held but one poured before", "With none before"
 unfoldable pub groupBefore : Shape → Session → Before
@@ -187,6 +189,7 @@ ended shape s =
       group = nothing shape;
       poured = true;
       «last_sequence» = s .group .sequence;
+      «last_timestamp» = s .group .timestamp;
       «last_l» = s .group .l;
       «last_b» = s .group .b;
     }

@@ -30,6 +30,7 @@ pub struct Session {
     pub group: Holding,
     pub poured: bool,
     pub last_sequence: u16,
+    pub last_timestamp: u32,
     pub last_l: u8,
     pub last_b: u8,
 }
@@ -85,6 +86,7 @@ fn vacant(open: bool, source: u32, form: Form) -> Session
         group,
         poured: false,
         last_sequence: 0,
+        last_timestamp: 0,
         last_l: 0,
         last_b: 0,
     }
@@ -217,13 +219,13 @@ fn with_group(session: Session, group: Holding) -> Session
     next
 }
 
-// The numbers of the last poured group. Its base timestamp is not remembered: it decides nothing.
+// The numbers of the last poured group.
 fn last_numbers(session: Session) -> GroupNumbers
     ensures { λ r. ⌜ r ≡ lastNumbers session ⌝ }
 {
     GroupNumbers {
         sequence: session.last_sequence,
-        timestamp: 0,
+        timestamp: session.last_timestamp,
         l: session.last_l,
         b: session.last_b,
     }
@@ -346,6 +348,7 @@ fn ended(session: Session) -> Session
         group: none,
         poured: true,
         last_sequence: group.sequence,
+        last_timestamp: group.timestamp,
         last_l: group.l,
         last_b: group.b,
     }

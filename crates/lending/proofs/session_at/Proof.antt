@@ -23,18 +23,22 @@ shared-slice-read-t9 c = search needs
 two-requires : tie.Need-two-requires
 two-requires c κs = search needs
 
-shared-slice-read-t13 : tie.Need-shared-slice-read-t13
-shared-slice-read-t13 c = search needs
+four-requires-2 : tie.Need-four-requires-2
+four-requires-2 c κs = search needs
 
-shared-slice-read-t15 : tie.Need-shared-slice-read-t15
-shared-slice-read-t15 c = search needs
+shared-slice-read-t14 : tie.Need-shared-slice-read-t14
+shared-slice-read-t14 c = search needs
+
+shared-slice-read-t16 : tie.Need-shared-slice-read-t16
+shared-slice-read-t16 c = search needs
 
 returns : tie.Need-returns
 returns c =
-    let at-four = c .before .before .before .before in
+    let at-four = c .before .before .before .before .before in
     let at-holding-at = at-four .before .before in
     let at-form-at = at-holding-at .before in
-    session-read _ _ refl (at-four .four .ensures) (at-form-at .form-at .ensures) (at-holding-at .holding-at .ensures) refl (c .before .before .two .ensures) refl refl
+    session-read _ _ refl (at-four .four .ensures) (at-form-at .form-at .ensures) (at-holding-at .holding-at .ensures) refl
+    (c .before .before .before .two .ensures) (c .before .before .four2 .ensures) refl refl
 
 pub session-at-spec : {M : Type 1} → statement M
 session-at-spec =
@@ -46,6 +50,7 @@ session-at-spec =
     four-requires
     shared-slice-read-t9
     two-requires
-    shared-slice-read-t13
-    shared-slice-read-t15
+    four-requires-2
+    shared-slice-read-t14
+    shared-slice-read-t16
     returns)

@@ -14,7 +14,7 @@ use Rattle.frame.specs.Places.{upTo, noFrame}
 use Rattle.frame.proofs.FrameTableLaws.{erasure-listed}
 use Rattle.frame.proofs.PlacesLaws.{upTo-at, every-at, every-append, every-upTo, length-upTo}
 use Rattle.payload.proofs.Readings.{IsPacket, read-is}
-use Rattle.entries.specs.Kind.{Kind, listsErasure}
+use Rattle.entries.specs.Kind.{Kind, keepsTypes, listsErasure}
 use Rattle.entries.specs.Entries.{frames, allowed, entriesOf}
 use Rattle.entries.proofs.Written.{AllOk, entries-written}
 use Rattle.recording.specs.Recording.{recordingRead}
@@ -88,16 +88,22 @@ entries-both v w u x y =
 entries-none : (v : FrameTable) → IsEntries v []
 entries-none v = record { fs = []; listed = tt; is = refl }
 
-entries-lost : (kind : Kind) → T (listsErasure kind) → (n : ℕ) → IsEntries (kind .table) (replicate n (kind .erasure))
-entries-lost kind r zero = entries-none (kind .table)
-entries-lost kind r (suc n) =
-    let i = entries-lost kind r n in
+-- frames of silence: erasures
+abbrev pub silent : Kind → Frame
+silent kind = record { type = kind .erasure; body = [] }
+
+pub silent-listed : (kind : Kind) → T (listsErasure kind) → (n : ℕ) → AllListed (kind .table) (replicate n (silent kind))
+silent-listed kind r zero = tt
+silent-listed kind r (suc n) =
     let z = both-hold (known (kind .table) (kind .erasure)) (eqb (size (kind .table) (kind .erasure)) 0) r in
-    record {
-      fs = record { type = kind .erasure; body = [] } ∷ i .fs;
-      listed = (record { type-known = hold-true _ (z .0); octets = sym (eqb→eq (size (kind .table) (kind .erasure)) 0 (z .1)) }, i .listed);
-      is = ap (λ (l : List ℕ). kind .erasure ∷ l) (i .is);
-    }
+    (record { type-known = hold-true _ (z .0); octets = sym (eqb→eq (size (kind .table) (kind .erasure)) 0 (z .1)) }, silent-listed kind r n)
+
+pub silent-entries : (kind : Kind) (n : ℕ) → replicate n (kind .erasure) ≡ entriesOf (replicate n (silent kind))
+silent-entries kind zero = refl
+silent-entries kind (suc n) = ap (λ (l : List ℕ). kind .erasure ∷ l) (silent-entries kind n)
+
+entries-lost : (kind : Kind) → T (listsErasure kind) → (n : ℕ) → IsEntries (kind .table) (replicate n (kind .erasure))
+entries-lost kind r n = record { fs = replicate n (silent kind); listed = silent-listed kind r n; is = silent-entries kind n }
 
 -- ---- a session whose group is a box, or none
 data Fine (v : FrameTable) (s : Session) : Type 0 where
@@ -193,17 +199,18 @@ unfolding allowed
 any-ok v [] = tt
 any-ok v (f ∷ fs) = (refl, any-ok v fs)
 
+pub reads-entries : (kind : Kind) → T (keepsTypes kind) → (fs : List Frame) → AllListed (kind .table) fs → recordingRead kind (kind .opening ++ entriesOf fs) ≡ frames fs
+unfolding recordingRead
+reads-entries kind h fs l =
+    rw (begins-self kind (entriesOf fs), drop-append-seam (kind .opening) (entriesOf fs))
+    (entries-written kind h (allowed (kind .table) Any) (length (kind .opening)) fs l (any-ok (kind .table) fs))
+
 pub gives-a-recording : GivesARecording
-unfolding GivesARecording captureRecording entriesRecorded wholeRun recordingRead
+unfolding GivesARecording captureRecording entriesRecorded wholeRun
 gives-a-recording kind r u h lists c =
     let hs = packetsIn c in
     let g =
     then-good kind r u lists (runOf kind (firstSession hs) hs) (pouring (kind .table)) (run-good kind r u lists (firstSession hs) hs (first-fine kind r u lists hs))
     (λ t x. pour-good kind r u lists t x) in
     let x = g .entries in
-    let fs = x .fs in
-    record {
-      frames = fs;
-      read = rw (x .is, begins-self kind (entriesOf fs), drop-append-seam (kind .opening) (entriesOf fs))
-          (entries-written kind h (allowed (kind .table) Any) (length (kind .opening)) fs (x .listed) (any-ok (kind .table) fs));
-    }
+    record { frames = x .fs; read = rw (x .is) (reads-entries kind h (x .fs) (x .listed)) }

@@ -26,9 +26,9 @@ use Rattle.session.proofs.Ends.{only-group}
 use Rattle.lending.specs.Laid.{flagOctet, isSet, isLaid, numberOctets, frameOctets, holdingOctets, holdingAt, holdingLaid}
 use Rattle.lending.specs.Laid.{formOctets, formAt, lastOctets, sessionHead, sessionLaid, sessionAt, isSession, sessionIn}
 use Rattle.lending.proofs.LaidLaws.{long-enough, form-free, form-interleaved, holding-there, session-there, session-read}
-use Rattle.lending.proofs.Pieces.{A, B, C, D, F, N, M, O, G, S, P, Q, length-ab, length-abc, length-abcd, length-numbers, length-f}
+use Rattle.lending.proofs.Pieces.{A, B, C, D, F, N, M, O, G, S, P, Q, K, E, Z, T, length-ab, length-abc, length-abcd, length-numbers, length-f}
 use Rattle.lending.proofs.Pieces.{length-m, length-fn, length-fnm, length-holding, length-holding-laid, length-form, length-og, length-ogs}
-use Rattle.lending.proofs.Pieces.{length-ogsp, length-ogspq, length-last, length-head, length-grouped, length-session-laid}
+use Rattle.lending.proofs.Pieces.{length-ogsp, length-kez, length-ogspq, length-last, length-head, length-grouped, length-session-laid}
 use Rattle.claims.specs.Packets.{AreOctets}
 use Rattle.claims.specs.Lent.{HoldingReadsBack, NoneRemembered, NothingPouredNothingRemembered, SessionReadsBack}
 use Rattle.claims.proofs.Lent.{are-laid}
@@ -118,11 +118,18 @@ flag-back true = refl
 flag-back false = refl
 
 -- ---- a session: its pieces, by their windows
+-- octets that say these numbers of the last poured group
+record Last (o : List ℕ) (q t m c : ℕ) : Type 0 where
+  sequence : twoAt o 9 ≡ q
+  timestamp : fourAt o 16 ≡ t
+  l : getD o 11 0 ≡ m
+  b : getD o 12 0 ≡ c
+
 module _ (s : Session) where
   -- a window of the first octets is one of a shorter beginning
-  to-q : (k n : ℕ) → k + n ≤ 13 → take n (drop k (sessionHead s)) ≡ take n (drop k (O s ++ G s ++ S s ++ P s ++ Q s))
+  to-q : (k n : ℕ) → k + n ≤ 20 → take n (drop k (sessionHead s)) ≡ take n (drop k (O s ++ G s ++ S s ++ P s ++ Q s))
   unfolding sessionHead
-  to-q k n p = in-first (O s ++ G s ++ S s ++ P s ++ Q s) (replicate 19 0) k n (omega (arith, (length-ogspq s)))
+  to-q k n p = in-first (O s ++ G s ++ S s ++ P s ++ Q s) (replicate 12 0) k n (omega (arith, (length-ogspq s)))
 
   to-p : (k n : ℕ) → k + n ≤ 9 → take n (drop k (sessionHead s)) ≡ take n (drop k (O s ++ G s ++ S s ++ P s))
   to-p k n p = to-q k n (omega arith) ∙ in-first (O s ++ G s ++ S s ++ P s) (Q s) k n (omega (arith, (length-ogsp s)))
@@ -145,8 +152,16 @@ module _ (s : Session) where
   poured-piece : take 1 (drop 8 (sessionHead s)) ≡ P s
   poured-piece = to-p 8 1 (omega arith) ∙ in-second (O s ++ G s ++ S s) (P s) 8 0 1 (length-ogs s)
 
-  last-piece : take 4 (drop 9 (sessionHead s)) ≡ Q s
-  last-piece = to-q 9 4 (omega arith) ∙ in-second (O s ++ G s ++ S s ++ P s) (Q s) 9 0 4 (length-ogsp s) ∙ take-all 4 (Q s) (omega (arith, length-last s))
+  last-piece : take 11 (drop 9 (sessionHead s)) ≡ Q s
+  last-piece = to-q 9 11 (omega arith) ∙ in-second (O s ++ G s ++ S s ++ P s) (Q s) 9 0 11 (length-ogsp s) ∙ take-all 11 (Q s) (omega (arith, length-last s))
+
+  -- the base timestamp of the last poured group, if there is one
+  time-piece : s .poured ≡ true → take 4 (drop 16 (sessionHead s)) ≡ T s
+  unfolding lastOctets
+  time-piece e =
+      let q : Q s ≡ K s ++ E s ++ Z s ++ T s = simp e in
+      to-q 16 4 (omega arith) ∙ in-second (O s ++ G s ++ S s ++ P s) (Q s) 9 7 4 (length-ogsp s) ∙ ap (λ (w : List ℕ). take 4 (drop 7 w)) q
+      ∙ in-second (K s ++ E s ++ Z s) (T s) 7 0 4 (length-kez s) ∙ take-all 4 (T s) (omega (arith, length-four (s .«last_timestamp»)))
 
   -- octets that begin as the session is laid out
   module _ (rest : List ℕ) where
@@ -193,40 +208,51 @@ module _ (s : Session) where
         go HeaderFree a b c = sym (form-free all 1 (λ (e : getD all 1 0 ≡ 1). absurd (omega arith)))
         go (Interleaved m) a b c = sym (form-interleaved all 1 a) ∙ ap₂ (λ (l n : ℕ). Interleaved (record { «max_l» = l; «max_b» = n })) b c
 
-    last-octet : (i : ℕ) → i < 4 → getD all (9 + i) 0 ≡ getD (Q s) i 0
-    last-octet i p = octet 9 4 i (Q s) (omega arith) p last-piece
+    last-octet : (i : ℕ) → i < 11 → getD all (9 + i) 0 ≡ getD (Q s) i 0
+    last-octet i p = octet 9 11 i (Q s) (omega arith) p last-piece
 
     -- the numbers of the last poured group; where none was, they read as zero
-    abbrev Last : ℕ → ℕ → ℕ → Type 0
-    Last q l b = (twoAt all 9 ≡ q) × ((getD all 11 0 ≡ l) × (getD all 12 0 ≡ b))
-
-    last-zero : s .poured ≡ false → Last 0 0 0
-    unfolding lastOctets twoAt
+    last-zero : s .poured ≡ false → Last all 0 0 0 0
+    unfolding lastOctets twoAt fourAt
     last-zero e =
-        let z : (i : ℕ) → i < 4 → getD all (9 + i) 0 ≡ getD (replicate 4 0) i 0 = λ i p. last-octet i p ∙ simp e in
+        let z : (i : ℕ) → i < 11 → getD all (9 + i) 0 ≡ getD (replicate 11 0) i 0 = λ i p. last-octet i p ∙ simp e in
         let a = z 0 (omega arith) in
         let b = z 1 (omega arith) in
-        (omega arith, (z 2 (omega arith), z 3 (omega arith)))
+        let c = z 7 (omega arith) in
+        let d = z 8 (omega arith) in
+        let f = z 9 (omega arith) in
+        let g = z 10 (omega arith) in
+        record { sequence = omega arith; timestamp = omega arith; l = z 2 (omega arith); b = z 3 (omega arith) }
 
-    last-back : s .poured ≡ true → Last (s .«last_sequence») (s .«last_l») (s .«last_b»)
+    last-back : s .poured ≡ true → Last all (s .«last_sequence») (s .«last_timestamp») (s .«last_l») (s .«last_b»)
     unfolding lastOctets twoAt twoOctets
     last-back e =
-        let w = twoOctets (s .«last_sequence») ++ (s .«last_l» ∷ s .«last_b» ∷ []) in
-        let z : (i : ℕ) → i < 4 → getD all (9 + i) 0 ≡ getD w i 0 = λ i p. last-octet i p ∙ simp e in
+        let w = K s ++ E s ++ Z s ++ T s in
+        let z : (i : ℕ) → i < 11 → getD all (9 + i) 0 ≡ getD w i 0 = λ i p. last-octet i p ∙ simp e in
         let a = z 0 (omega arith) in
         let b = z 1 (omega arith) in
-        (omega arith, (z 2 (omega arith), z 3 (omega arith)))
+        record {
+          sequence = omega arith;
+          timestamp = four-window all 16 ∙ ap (λ (w : List ℕ). fourAt w 0) (head-there 16 4 (omega arith) ∙ time-piece e) ∙ four-back (s .«last_timestamp»);
+          l = z 2 (omega arith);
+          b = z 3 (omega arith);
+        }
 
-    last-same : NoneRemembered s → Last (s .«last_sequence») (s .«last_l») (s .«last_b»)
+    last-same : NoneRemembered s → Last all (s .«last_sequence») (s .«last_timestamp») (s .«last_l») (s .«last_b»)
     unfolding NoneRemembered
     last-same none = go (s .poured) refl
       where
-        go : (b : Bool) → s .poured ≡ b → Last (s .«last_sequence») (s .«last_l») (s .«last_b»)
+        go : (b : Bool) → s .poured ≡ b → Last all (s .«last_sequence») (s .«last_timestamp») (s .«last_l») (s .«last_b»)
         go true e = last-back e
         go false e =
             let n = none e in
             let z = last-zero e in
-            (z .0 ∙ sym (n .0), (z .1 .0 ∙ sym (n .1 .0), z .1 .1 ∙ sym (n .1 .1)))
+            record {
+              sequence = z .sequence ∙ sym (n .0);
+              timestamp = z .timestamp ∙ sym (n .1 .0);
+              l = z .l ∙ sym (n .1 .1 .0);
+              b = z .b ∙ sym (n .1 .1 .1);
+            }
 
     session-back : NoneRemembered s → Shaped holdingShape (s .group) → AreOctets (s .group .marks) → s ≡ sessionAt all
     session-back none x z =
@@ -236,9 +262,10 @@ module _ (s : Session) where
         (sym form-back)
         (sym (holding-back (s .group) x z all 32 (group-there x)))
         (sym (ap isSet is-poured ∙ flag-back (s .poured)))
-        (sym (l .0))
-        (sym (l .1 .0))
-        (sym (l .1 .1))
+        (sym (l .sequence))
+        (sym (l .timestamp))
+        (sym (l .l))
+        (sym (l .b))
 
 -- ---- both, whatever the buffer held before
 there-laid : (w rest : List ℕ) → length w ≡ 2304 → isLaid (w ++ rest) w ≡ true
@@ -274,9 +301,9 @@ session-reads-back s none x z d =
     sym (session-there (w ++ rest) s (there-laid w rest (length-session-laid s x)) (session-back s rest none x z))
 
 -- ---- a session in which no group was poured has the numbers of none
-pub zero-none : (s : Session) → s .«last_sequence» ≡ 0 → s .«last_l» ≡ 0 → s .«last_b» ≡ 0 → NoneRemembered s
+pub zero-none : (s : Session) → s .«last_sequence» ≡ 0 → s .«last_timestamp» ≡ 0 → s .«last_l» ≡ 0 → s .«last_b» ≡ 0 → NoneRemembered s
 unfolding NoneRemembered
-zero-none s a b c = λ e. (a, (b, c))
+zero-none s a t b c = λ e. (a, (t, (b, c)))
 
 same-none : (s : Session) (h : Holding) → NoneRemembered s → NoneRemembered (withGroup s h)
 unfolding NoneRemembered withGroup
@@ -292,23 +319,25 @@ opened-none source form = go (formRight form)
     go : (b : Bool) → NoneRemembered
         (cond {A = Started} b (record { answer = answer.Done; session = fresh holdingShape source form })
         (record { answer = answer.Refused NotApplicable; session = neverOpened holdingShape }) .session)
-    go true = zero-none _ refl refl refl
-    go false = zero-none _ refl refl refl
+    go true = zero-none _ refl refl refl refl
+    go false = zero-none _ refl refl refl refl
 
 laid-none : (o : List ℕ) → sessionLaid (sessionAt o) ≡ take 2304 o → NoneRemembered (sessionAt o)
 unfolding NoneRemembered sessionAt
 laid-none o e q =
     let rest = drop 2304 o in
     let y : o ≡ sessionLaid (sessionAt o) ++ rest = sym (ap (λ (w : List ℕ). w ++ rest) e ∙ take-append-drop 2304 o) in
-    let z = last-zero (sessionAt o) rest q in
-    (ap (λ (w : List ℕ). twoAt w 9) y ∙ z .0, (ap (λ (w : List ℕ). getD w 11 0) y ∙ z .1 .0, ap (λ (w : List ℕ). getD w 12 0) y ∙ z .1 .1))
+    let z = last-zero (sessionAt o) rest q in (
+      ap (λ (w : List ℕ). twoAt w 9) y ∙ z .sequence,
+      (ap (λ (w : List ℕ). fourAt w 16) y ∙ z .timestamp, (ap (λ (w : List ℕ). getD w 11 0) y ∙ z .l, ap (λ (w : List ℕ). getD w 12 0) y ∙ z .b)),
+    )
 
 lent-none : (o : List ℕ) → NoneRemembered (sessionIn o)
 unfolding sessionIn isSession neverOpened vacant
 lent-none o = go (isLaid o (sessionLaid (sessionAt o))) refl
   where
     go : (b : Bool) → isLaid o (sessionLaid (sessionAt o)) ≡ b → NoneRemembered (cond b (sessionAt o) (neverOpened holdingShape))
-    go false e = zero-none _ refl refl refl
+    go false e = zero-none _ refl refl refl refl
     go true e = laid-none o (are-laid o (sessionLaid (sessionAt o)) e)
 
 pours-none : (s : Session) → NoneRemembered (ended holdingShape s)

@@ -25,6 +25,8 @@ pub mod Opened
 pub mod Lent
 pub mod LentJoinings
 pub mod Examples
+pub mod Talk
+pub mod Pauses
 pub mod Places
 pub mod Idle
 pub mod Determined

@@ -32,6 +32,8 @@ use Rattle.claims.proofs.Captures.{nothing-is-larger, capture-exactly-i
 use Rattle.claims.proofs.CapturesRead.{gives-a-recording}
 use Rattle.claims.proofs.CapturesAnswered.{each-packet-answered, answered-by-its-step, recorded-by-its-answers, twelve-is-never-told}
 use Rattle.claims.proofs.CapturesAnswered.{no-packet-answers-21, bad-capture-is-told}
+use Rattle.claims.proofs.Talk.{talk-is-recorded}
+use Rattle.claims.proofs.Pauses.{clock-decides, as-long-as-the-clock}
 use Rattle.claims.proofs.Examples.{marked-examples}
 use Rattle.claims.proofs.Places.{place-inside, table-is-cut, type-is-reserved, entry-is-past-maximum, bodies-are-cut, octets-are-left}
 use Rattle.claims.proofs.Places.{recording-faults, entries-faults}
@@ -140,4 +142,7 @@ promised = record {
   twelve-is-never-told = twelve-is-never-told;
   no-packet-answers-21 = no-packet-answers-21;
   bad-capture-is-told = bad-capture-is-told;
+  clock-decides = clock-decides;
+  talk-is-recorded = talk-is-recorded;
+  as-long-as-the-clock = as-long-as-the-clock;
 }

@@ -65,6 +65,28 @@ row-erasures v ms rs x m (suc b) h e =
     omega (arith, erasures-append (rows v ms rs m b) (row v ms rs b m))
 
 -- ---- places
+-- each place is that of a frame of a packet
+pub record At (l b t : ℕ) : Type 0 where
+  pub n : ℕ
+  pub k : ℕ
+  pub in-group : n ≤ l
+  pub in-bundle : k < b
+  pub there : placeOf l n k ≡ t
+  pub rest : t % (l + 1) ≡ n
+
+pub each-place : (l b t : ℕ) → t < (l + 1) * b → At l b t
+each-place l b t i =
+    let w = l + 1 in
+    let less : t % w < w = mod-lt t {m = w} (omega arith) in
+    record {
+      n = t % w;
+      k = t / w;
+      in-group = omega arith;
+      in-bundle = div-lt-iff-lt-mul {k = w} {x = t} {y = b} (omega arith) .1 (omega (arith, mul-comm b w));
+      there = ap (λ (i : ℕ). i + t % w) (mul-comm (t / w) w) ∙ div-add-mod t w;
+      rest = refl;
+    }
+
 -- two numbers that follow each other do not leave the same rest
 rests-differ : (t m x : ℕ) → 2 ≤ m → t % m ≡ x → (t + 1) % m ≡ x → ⊥
 rests-differ t m x h a b =
@@ -106,11 +128,8 @@ module _ (v : Voice) (m : HasRoom v) (form : Form) (g : Sent v form) (s : Sessio
   -- the place t is an erasure only if its packet is the missing one
   of-packet : (t : ℕ) → t < (g .group .l + 1) * g .group .b → isErasure (frameAt (inTime v (s .group)) t) ≡ true → t % (g .group .l + 1) ≡ x
   of-packet t i e =
-      let w = g .group .l + 1 in
-      let n : t % w < w = mod-lt t {m = w} (omega arith) in
-      let k : t / w < g .group .b = div-lt-iff-lt-mul {k = w} {x = t} {y = g .group .b} (omega arith) .1 (omega (arith, mul-comm (g .group .b) w)) in
-      let p : placeOf (g .group .l) (t % w) (t / w) ≡ t = ap (λ (i : ℕ). i + t % w) (mul-comm (t / w) w) ∙ div-add-mod t w in
-      eqb-true (t % w) x (sym (at-place (t % w) (t / w) (omega arith) k) ∙ ap (λ (i : ℕ). isErasure (frameAt (inTime v (s .group)) i)) p ∙ e)
+      let p = each-place (g .group .l) (g .group .b) t i in
+      p .rest ∙ eqb-true (p .n) x (sym (at-place (p .n) (p .k) (p .in-group) (p .in-bundle)) ∙ ap (λ (i : ℕ). isErasure (frameAt (inTime v (s .group)) i)) (p .there) ∙ e)
 
   spread : Spread (inTime v (s .group)) (g .group .b)
   spread =

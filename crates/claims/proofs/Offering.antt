@@ -130,6 +130,15 @@ module _ (v : Voice) (m : HasRoom v) (form : Form) (g : Sent v form) (n : ℕ) (
   time-is : baseTimestamp (stamped (sentNumbers (g .group)) n) n ≡ g .group .timestamp
   time-is = time-back (g .group .timestamp) n (g .group .timestamp-fits)
 
+  -- the numbers that it arrives with are those of its group
+  pub arrives-with : arrival (v .shape) (numbered (sentNumbers (g .group)) n) (stamped (sentNumbers (g .group)) n) (g .group .l) n ours .numbers ≡ sentNumbers (g .group)
+  unfolding arrival
+  arrives-with = same base-is time-is ours-many
+    where
+      same : {q q′ t t′ l b b′ : ℕ} → q ≡ q′ → t ≡ t′ → b ≡ b′
+          → _≡_ {A = GroupNumbers} (record { sequence = q; timestamp = t; l = l; b = b }) (record { sequence = q′; timestamp = t′; l = l; b = b′ })
+      same i j k = cc
+
   -- packet n put into a holding with the group's numbers that knows these packets
   put-part : (h : Holding) → Keeps v h → OfGroup h (g .group) → (ds : List ℕ) → ((i : ℕ) → i < packetsOf (v .shape) → knownOf v h i ≡ knowledge (g .group) ds i)
       → Part (withPacket (v .shape) h n (laid (v .shape) ours)) (g .group) (n ∷ ds)
@@ -268,12 +277,7 @@ module _ (v : Voice) (m : HasRoom v) (form : Form) (g : Sent v form) (n : ℕ) (
   came = arrival (v .shape) (numbered (sentNumbers (g .group)) n) (stamped (sentNumbers (g .group)) n) (g .group .l) n mine
 
   came-numbers : came .numbers ≡ sentNumbers (g .group)
-  unfolding arrival
-  came-numbers = same (base-is v m form g n le) (time-is v m form g n le) (ours-many v m form g n le)
-    where
-      same : {q q′ t t′ l b b′ : ℕ} → q ≡ q′ → t ≡ t′ → b ≡ b′
-          → _≡_ {A = GroupNumbers} (record { sequence = q; timestamp = t; l = l; b = b }) (record { sequence = q′; timestamp = t′; l = l; b = b′ })
-      same i j k = cc
+  came-numbers = arrives-with v m form g n le
 
   was-read : readAs (v .table) (s .form) (g .payload n) ≡ packet (g .group .l) n (g .d n) mine
   was-read = rw (y .in-form) (g .read n le)
@@ -355,7 +359,7 @@ places-of v m form s g ns x =
         ∙ ap (λ (w : Known). frameKnown w k) (x .part .knows n (omega (arith, g .group .low)))
 
 -- an open session pours its group's places
-pours : (v : Voice) → HasRoom v → (s : Session) → isOpen v s ≡ true → Box v (s .group) → pourMade v s ≡ octets (entriesOf (inTime v (s .group)))
+pub pours : (v : Voice) → HasRoom v → (s : Session) → isOpen v s ≡ true → Box v (s .group) → pourMade v s ≡ octets (entriesOf (inTime v (s .group)))
 unfolding EveryPlaceInTime pourMade
 pours v m s o x = rw o (every-place-in-time v m (s .group) x .entries)
 

@@ -25,11 +25,10 @@ use Rattle.landing.specs.Host.{namedForm, answerNumber, openNamed, openedNamed}
 use Rattle.landing.specs.declared.Named.{Named}
 use Rattle.claims.specs.Packets.{AreOctets}
 use Rattle.claims.specs.Lent.{SessionReadsBack}
-use Rattle.claims.specs.Refusals.{RefusalsAreNumbered}
 use Rattle.claims.specs.Offering.{Ready, FreshIsReady}
 use Rattle.claims.specs.Demand3.{OpenedIsReady}
 use Rattle.claims.proofs.Builds.{by-name}
-use Rattle.claims.proofs.Refusals.{refusals-are-numbered}
+use Rattle.claims.proofs.Refusals.{never-zero}
 use Rattle.claims.proofs.Marks.{places-octets}
 use Rattle.claims.proofs.Lent.{nothing-shaped}
 use Rattle.claims.proofs.LentBack.{zero-none, session-reads-back}
@@ -60,13 +59,13 @@ none-octets = places-octets (nothing holdingShape .marks) (λ i h. small i h)
 
 fresh-back : (source : ℕ) (form : Form) (o : List ℕ) → sessionIn (over o 0 (sessionLaid (fresh holdingShape source form))) ≡ fresh holdingShape source form
 unfolding SessionReadsBack fresh vacant
-fresh-back source form o = session-reads-back (fresh holdingShape source form) (zero-none (fresh holdingShape source form) refl refl refl) nothing-shaped none-octets o
+fresh-back source form o = session-reads-back (fresh holdingShape source form) (zero-none (fresh holdingShape source form) refl refl refl refl) nothing-shaped none-octets o
 
 -- an answer of 0 is no refusal
 zero-done : (y : Answer) → 0 ≡ answerNumber y → y ≡ Done
-unfolding answerNumber RefusalsAreNumbered
+unfolding answerNumber
 zero-done Done e = refl
-zero-done (Refused r) e = absurd (omega (arith, refusals-are-numbered r .0))
+zero-done (Refused r) e = absurd (omega (arith, never-zero r))
 
 room-done : (y : Answer) (o : List ℕ) → thenRoom y o ≡ Done → y ≡ Done
 unfolding thenRoom

@@ -1,10 +1,13 @@
 -- Demand 1 of the calls in Rattle, read off their contracts. Assumes nothing.
-use Prim.Native.Nat.{ℕ}
+use Prim.Native.Nat.{ℕ, _≤_}
 use mathlib.Core.Bool.{Bool, true, false, cond, _&&_}
 use mathlib.Core.Path.{_≡_, refl, sym, ap, ap₂, subst, _∙_}
 use mathlib.Core.List.{List}
+use mathlib.Core.Logic.{inl, inr, ⊎-elim}
 use native.Mathlib.Omega.{arith}
 use Rattle.answers.specs.Outputs.{Made, octets, writtenOf, outAfter, Writes}
+use Rattle.answers.specs.Answers.{numberOf}
+use Rattle.answers.specs.declared.Refusal.{Refusal}
 use Rattle.answers.specs.declared.Refusal.the-variants as refusal
 use Rattle.answers.specs.declared.Answer.{Answer}
 use Rattle.answers.specs.declared.Answer.the-variants as answer
@@ -43,28 +46,34 @@ use Rattle.claims.proofs.Builds.{offer-told, host-offer-told}
 
 pub refusals-are-numbered : RefusalsAreNumbered
 unfolding RefusalsAreNumbered
-refusals-are-numbered refusal.NoOctet = (omega arith, omega arith)
-refusals-are-numbered refusal.IndexPastLength = (omega arith, omega arith)
-refusals-are-numbered refusal.LengthPastMaximum = (omega arith, omega arith)
-refusals-are-numbered (refusal.TableCut at) = (omega arith, omega arith)
-refusals-are-numbered (refusal.ReservedType at) = (omega arith, omega arith)
-refusals-are-numbered (refusal.TooManyFrames at) = (omega arith, omega arith)
-refusals-are-numbered refusal.BundleOutOfRange = (omega arith, omega arith)
-refusals-are-numbered (refusal.BodiesCut at) = (omega arith, omega arith)
-refusals-are-numbered (refusal.OctetsLeft at) = (omega arith, omega arith)
-refusals-are-numbered refusal.HeaderFreeLength = (omega arith, omega arith)
-refusals-are-numbered refusal.AnotherSource = (omega arith, omega arith)
-refusals-are-numbered refusal.ContradictsGroup = (omega arith, omega arith)
-refusals-are-numbered refusal.LaterGroup = (omega arith, omega arith)
-refusals-are-numbered refusal.EarlierGroup = (omega arith, omega arith)
-refusals-are-numbered refusal.PacketDiffers = (omega arith, omega arith)
-refusals-are-numbered refusal.NoRoom = (omega arith, omega arith)
-refusals-are-numbered refusal.TooFarAhead = (omega arith, omega arith)
-refusals-are-numbered refusal.NotSendable = (omega arith, omega arith)
-refusals-are-numbered refusal.WrongOpening = (omega arith, omega arith)
-refusals-are-numbered (refusal.BodyCut at) = (omega arith, omega arith)
-refusals-are-numbered refusal.NotSameGroup = (omega arith, omega arith)
-refusals-are-numbered refusal.NotApplicable = (omega arith, omega arith)
+refusals-are-numbered refusal.NoOctet = inl (omega arith, omega arith)
+refusals-are-numbered refusal.IndexPastLength = inl (omega arith, omega arith)
+refusals-are-numbered refusal.LengthPastMaximum = inl (omega arith, omega arith)
+refusals-are-numbered (refusal.TableCut at) = inl (omega arith, omega arith)
+refusals-are-numbered (refusal.ReservedType at) = inl (omega arith, omega arith)
+refusals-are-numbered (refusal.TooManyFrames at) = inl (omega arith, omega arith)
+refusals-are-numbered refusal.BundleOutOfRange = inl (omega arith, omega arith)
+refusals-are-numbered (refusal.BodiesCut at) = inl (omega arith, omega arith)
+refusals-are-numbered (refusal.OctetsLeft at) = inl (omega arith, omega arith)
+refusals-are-numbered refusal.HeaderFreeLength = inl (omega arith, omega arith)
+refusals-are-numbered refusal.AnotherSource = inl (omega arith, omega arith)
+refusals-are-numbered refusal.ContradictsGroup = inl (omega arith, omega arith)
+refusals-are-numbered refusal.LaterGroup = inl (omega arith, omega arith)
+refusals-are-numbered refusal.EarlierGroup = inl (omega arith, omega arith)
+refusals-are-numbered refusal.PacketDiffers = inl (omega arith, omega arith)
+refusals-are-numbered refusal.NoRoom = inl (omega arith, omega arith)
+refusals-are-numbered refusal.TooFarAhead = inl (omega arith, omega arith)
+refusals-are-numbered refusal.NotSendable = inl (omega arith, omega arith)
+refusals-are-numbered refusal.WrongOpening = inl (omega arith, omega arith)
+refusals-are-numbered (refusal.BodyCut at) = inl (omega arith, omega arith)
+refusals-are-numbered refusal.NotSameGroup = inl (omega arith, omega arith)
+refusals-are-numbered refusal.NotApplicable = inl (omega arith, omega arith)
+refusals-are-numbered refusal.OffTheClock = inr refl
+
+-- so none has the number of an answer that is done
+pub never-zero : (r : Refusal) → 1 ≤ numberOf r
+unfolding RefusalsAreNumbered
+never-zero r = ⊎-elim (λ (x : (1 ≤ numberOf r) × (numberOf r ≤ 21)). x .0) (λ (e : numberOf r ≡ 24). omega arith) (refusals-are-numbered r)
 
 -- ---- writers
 writes-kept : (made : Made) (r : Written) {before after : List ℕ} → Writes made before r after → RefusedWriting r → after ≡ before

@@ -13,7 +13,7 @@ use Rattle.answers.specs.declared.Answer.the-variants as answer
 use Rattle.answers.specs.declared.Refusal.the-variants.{AnotherSource, NoRoom, NotApplicable}
 use Rattle.answers.specs.declared.Written.the-variants as written
 use Rattle.entries.specs.Entries.{entriesOf}
-use Rattle.numbers.specs.Place.{afterGap, afterPoured, decided}
+use Rattle.numbers.specs.Place.{afterPoured, decided}
 use Rattle.numbers.specs.declared.GroupNumbers.{GroupNumbers}
 use Rattle.numbers.specs.declared.Verdict.{Verdict}
 use Rattle.numbers.proofs.PlaceLaws.{PouredEnds, poured-ends}
@@ -83,14 +83,14 @@ pour-and-drop-alike v s = go (both v s)
 -- ---- what was lost between two groups
 
 -- after its group is ended, a session is open
-ended-open : (v : Voice) (s : Session) → isOpen v s ≡ true → holds v (s .group) ≡ true → isOpen v (ended (v .shape) s) ≡ true
+pub ended-open : (v : Voice) (s : Session) → isOpen v s ≡ true → holds v (s .group) ≡ true → isOpen v (ended (v .shape) s) ≡ true
 unfolding isOpen ended lastRight groupRight
 ended-open v s o h =
     let x = open-has v s o in
     let y = sound-has v (s .group) (holds-sound v (s .group) h .0) in
     simp (x .opened, x .form, le-leb _ _ (y .low), le-leb _ _ (y .some), le-leb _ _ (y .few), nothing-is (v .shape))
 
--- a packet then comes after the poured group, whose base timestamp decides nothing
+-- a packet then comes after the poured group
 module _ (u : Shape) (s : Session) (a : Arrival) where
   by-verdict : (g : GroupNumbers) (w : Verdict) → PouredEnds g (a .numbers) w → placedBy u s a w .answer ≡ takenAs (lostBy w)
   unfolding placedBy refuse begins accept lostBy takenAs
@@ -99,7 +99,7 @@ module _ (u : Shape) (s : Session) (a : Arrival) where
 
 ended-placed : (u : Shape) (s : Session) (a : Arrival)
     → placed u (ended u s) a .answer ≡ takenAs (lostBy (afterPoured (numbersOf (s .group)) (a .numbers)))
-unfolding placed groupBefore ended decided lastNumbers numbersOf afterPoured afterGap
+unfolding placed groupBefore ended decided lastNumbers numbersOf
 ended-placed u s a = rw (nothing-is u) (by-verdict u (ended u s) a _ _ (poured-ends (numbersOf (s .group)) (a .numbers)))
 
 pub lost-between-is-reported : LostBetweenIsReported

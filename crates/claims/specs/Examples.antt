@@ -11,7 +11,7 @@ use Rattle.form.specs.Agreed.{defaultForm}
 use Rattle.answers.specs.Answers.{numberOf, placeOf}
 use Rattle.answers.specs.declared.Place.{Place}
 use Rattle.answers.specs.declared.Place.the-variants.{Octet, Nowhere}
-use Rattle.answers.specs.declared.Refusal.the-variants.{ReservedType, AnotherSource, NotApplicable}
+use Rattle.answers.specs.declared.Refusal.the-variants.{ReservedType, AnotherSource, EarlierGroup, TooFarAhead, NotApplicable, OffTheClock}
 use Rattle.frame.specs.declared.Vocoder.the-variants.{Evrc}
 use Rattle.entries.specs.Kind.{kindOf, evrcOpening}
 use Rattle.entries.specs.Entries.{EntriesRead, entriesIn, refusedEntries}
@@ -30,12 +30,19 @@ use Rattle.session.specs.declared.Offered.{Offered}
 use Rattle.session.specs.declared.Taken.the-variants.{Accepted, Refused}
 use Rattle.holding.specs.Group.{isNothing}
 use Rattle.numbers.specs.Bases.{baseSequence, baseTimestamp}
+use Rattle.numbers.specs.Place.{afterPoured}
+use Rattle.numbers.specs.declared.GroupNumbers.{GroupNumbers}
+use Rattle.numbers.specs.declared.Verdict.{Verdict}
+use Rattle.numbers.specs.declared.Verdict.the-variants.{Begins}
+use Rattle.numbers.specs.declared.Verdict.the-variants as verdict
 use Rattle.capture.specs.Capture.{good}
 use Rattle.capture.specs.Run.{captureKind, captureRecording, answerOf}
 use Rattle.capture.specs.declared.Told.{Told}
 use Rattle.capture.specs.declared.Told.the-variants.{Answered}
 use Rattle.payload.specs.Payload.{Reading, packet, refusedPayload, readAs}
 use Rattle.payload.specs.Shown.{givenAs}
+use Rattle.claims.specs.Demand3.{Writers}
+use Rattle.claims.specs.Pauses.{Spoken, Talk}
 
 -- what is said of a payload: L, N, B, D, where each frame lies and its body; or the number of the refusal and its place (02, i). Of a
 -- recording, or of entries given to a writer: the number of frames, or the same
@@ -192,6 +199,43 @@ pub record P15 : Type 0 where
   pub inside : NewBase 0x0000 11
   pub earlier : NewBase 0xFFFE 13
 
+-- (02, ii) a poured group, the numbers of a packet after it, and what they decide
+pub record PauseRow : Type 0 where
+  pub poured : GroupNumbers
+  pub new : GroupNumbers
+  pub decides : Verdict
+
+-- numbers of a group
+abbrev at : ℕ → ℕ → ℕ → ℕ → GroupNumbers
+at sequence timestamp l b = record { sequence = sequence; timestamp = timestamp; l = l; b = b }
+
+-- after a group of base 5, base timestamp 1,000, L 1 and B 2: it ends at 1,640, and the next sequence number is 7
+abbrev after : ℕ → ℕ → Verdict → PauseRow
+after sequence timestamp v = record { poured = at 5 1000 1 2; new = at sequence timestamp 0 1; decides = v }
+
+-- the rows of (ii)
+abbrev pub pauseRows : List PauseRow
+pauseRows =
+    -- "divided by 160": no pause, one frame, 3,000 frames; "16 is given if the quotient is over 3,000"
+    after 7 1640 (Begins 0) ∷
+    after 7 1800 (Begins 1) ∷
+    after 7 481640 (Begins 3000) ∷
+    after 7 481800 (verdict.Refused TooFarAhead) ∷
+    -- "new 24 if the difference is no multiple of 160": half a frame; "order 13, 24, 16"
+    after 7 1720 (verdict.Refused OffTheClock) ∷
+    after 7 481801 (verdict.Refused OffTheClock) ∷
+    after 32775 1720 (verdict.Refused EarlierGroup) ∷
+    -- "the limit of 100 packets is dropped": 101 packets and 32,767 are missing, and the clock decides
+    after 108 1640 (Begins 0) ∷
+    after 32774 1800 (Begins 1) ∷
+    -- "modulo 4,294,967,296": a clock that goes back, by a frame and by 96 counts; one that begins anew
+    after 7 1480 (verdict.Refused OffTheClock) ∷
+    after 7 1544 (verdict.Refused TooFarAhead) ∷
+    record { poured = at 0xFFFF 0xFFFFFF60 0 1; new = at 0 160 0 1; decides = Begins 1 } ∷
+    -- "with the poured group's numbers"
+    record { poured = at 5 1000 1 2; new = at 7 1960 7 10; decides = Begins 2 } ∷
+    []
+
 -- the whole case: two packets of one group
 abbrev pub wholeCase : List ℕ
 wholeCase =
@@ -213,10 +257,33 @@ pub record Records (c w : List ℕ) : Type 0 where
   pub whole : good c ≡ true
   pub recording : captureRecording captureKind c ≡ captureKind .opening ++ w
 
--- (P11) and (P12)
+-- (02, ii) a talk with a silence of two frames: two groups of one frame, with sequence numbers that follow each other
+abbrev pub silentTalk : List ℕ
+silentTalk =
+    0x00 ∷ 0x02 ∷
+    0x00 ∷ 0x00 ∷ 0x00 ∷ 0x07 ∷ 0x00 ∷ 0x01 ∷ 0x00 ∷ 0x00 ∷ 0x00 ∷ 0x00 ∷ 0x00 ∷ 0x04 ∷
+    0x00 ∷ 0x00 ∷ 0x00 ∷ 0x07 ∷ 0x00 ∷ 0x02 ∷ 0x00 ∷ 0x00 ∷ 0x01 ∷ 0xE0 ∷ 0x00 ∷ 0x04 ∷
+    0x00 ∷ 0x01 ∷ 0x11 ∷ 0x11 ∷
+    0x00 ∷ 0x01 ∷ 0x22 ∷ 0x22 ∷ []
+
+-- a group of that talk, as it was spoken
+abbrev pub spokenOne : ℕ → ℕ → ℕ → ℕ → Spoken
+spokenOne sequence start silence octet =
+    record {
+      source = 7;
+      numbers = at sequence start 0 1;
+      frames = record { type = 1; body = octet ∷ octet ∷ [] } ∷ [];
+      payload = λ n. 0x00 ∷ 0x01 ∷ octet ∷ octet ∷ [];
+      start = start;
+      silence = silence;
+    }
+
+-- (P11) and (P12), and that talk
 pub record WholeCase : Type 0 where
   pub heard : Records wholeCase (0x01 ∷ 0x11 ∷ 0x11 ∷ 0x01 ∷ 0x22 ∷ 0x22 ∷ 0x01 ∷ 0x33 ∷ 0x33 ∷ 0x01 ∷ 0x44 ∷ 0x44 ∷ [])
   pub lost : Records secondLost (0x01 ∷ 0x11 ∷ 0x11 ∷ 0x0E ∷ 0x01 ∷ 0x33 ∷ 0x33 ∷ 0x0E ∷ [])
+  pub talk : (writers : Writers) → Talk writers (spokenOne 1 0 0 0x11) (spokenOne 2 480 2 0x22 ∷ []) silentTalk
+  pub silence : Records silentTalk (0x01 ∷ 0x11 ∷ 0x11 ∷ 0x0E ∷ 0x0E ∷ 0x01 ∷ 0x22 ∷ 0x22 ∷ [])
 
 -- each row's octets are read as the row says; (P13) sequence 0000, timestamp 0, N 1 has the bases FFFF and FFFFFF60; and (P14) any 22
 -- octets are a frame of type 4
@@ -227,4 +294,5 @@ pub record MarkedExamples : Type 0 where
   pub anyRate1 : (p : List ℕ) → length p ≡ 22 → readAs (tableOf HeaderFree) HeaderFree p ≡ packet 0 0 0 (record { type = 4; body = p } ∷ [])
   pub bases : (baseSequence 0 1 ≡ 0xFFFF) × (baseTimestamp 0 1 ≡ 0xFFFFFF60)
   pub distances : P15
+  pub pauses : map (λ (r : PauseRow). afterPoured (r .poured) (r .new)) pauseRows ≡ map (λ (r : PauseRow). r .decides) pauseRows
   pub captures : WholeCase

@@ -57,7 +57,8 @@ HoldingReadsBack = (h : Holding) → Shaped holdingShape h → AreOctets (h .mar
 
 -- a session in which no group was poured has the numbers of none
 unfoldable pub NoneRemembered : Session → Type 0
-NoneRemembered s = s .poured ≡ false → (s .«last_sequence» ≡ 0) × ((s .«last_l» ≡ 0) × (s .«last_b» ≡ 0))
+NoneRemembered s =
+    s .poured ≡ false → (s .«last_sequence» ≡ 0) × ((s .«last_timestamp» ≡ 0) × ((s .«last_l» ≡ 0) × (s .«last_b» ≡ 0)))
 
 -- so it is with every session that a call reads or gives
 pub record NothingPouredNothingRemembered : Type 0 where

@@ -15,6 +15,7 @@ pub mod Demand3
 pub mod Boxes
 pub mod TwoBoxes
 pub mod Captures
+pub mod Pauses
 pub mod Lent
 pub mod LentJoinings
 pub mod Examples

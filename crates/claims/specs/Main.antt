@@ -27,6 +27,7 @@ use Rattle.claims.specs.Joinings.{NothingLost, NothingInvented, EqualKno
 use Rattle.claims.specs.Captures.{GroupIsRecorded, FirstSourceAlone, OthersAreNotHeard, GivesARecording, NoPacketGivesOpening}
 use Rattle.claims.specs.Captures.{NothingIsLarger, CaptureExactlyIf, EachPacketAnswered, AnsweredByItsStep, RecordedByItsAnswers}
 use Rattle.claims.specs.Captures.{TwelveIsNeverTold, NoPacketAnswers21, BadCaptureIsTold}
+use Rattle.claims.specs.Pauses.{ClockDecides, TalkIsRecorded, AsLongAsTheClock}
 use Rattle.claims.specs.Examples.{MarkedExamples}
 use Rattle.claims.specs.Places.{PlaceInside, TableIsCut, TypeIsReserved, EntryIsPastMaximum, BodiesAreCut, OctetsAreLeft}
 use Rattle.claims.specs.Places.{RecordingFaults, EntriesFaults}
@@ -115,7 +116,7 @@ pub record Promised : Type 0 where
   -- "and the outcome is what one box would hold had it heard all those packets."
   pub boxes-join : BoxesJoin
   pub copied-out : CopiedOut
-  -- what a host of two boxes asks: document 01, "ends the group", and "the answer reports e x B lost frames before it"
+  -- what a host of two boxes asks: document 01, "ends the group", and "the answer reports .. lost frames before it"
   pub pour-and-drop-alike : PourAndDropAlike
   pub lost-between-is-reported : LostBetweenIsReported
   -- the octets that a host lends for sessions and holdings
@@ -159,3 +160,7 @@ pub record Promised : Type 0 where
   pub twelve-is-never-told : TwelveIsNeverTold
   pub no-packet-answers-21 : NoPacketAnswers21
   pub bad-capture-is-told : BadCaptureIsTold
+  -- document 02, (ii): "Document 003, section 7, lets the timestamp clock decide, exactly 160 a frame." A recording does not come out short
+  pub clock-decides : ClockDecides
+  pub talk-is-recorded : TalkIsRecorded
+  pub as-long-as-the-clock : AsLongAsTheClock

@@ -4,6 +4,7 @@ use Prim.Native.Nat.{ℕ, _≤_}
 use mathlib.Core.Path.{_≡_}
 use mathlib.Core.List.{List}
 use mathlib.Core.Bool.{true}
+use mathlib.Core.Logic.{_⊎_}
 use contract.Lifetimes.{Lfts}
 use Rattle.answers.specs.Answers.{numberOf}
 use Rattle.answers.specs.declared.Refusal.{Refusal}
@@ -34,9 +35,9 @@ use Rattle.claims.specs.Calls.Capture as capture
 use Rattle.claims.specs.Calls.Lending as lending
 use Rattle.claims.specs.Calls.Landing as landing
 
--- "a number in document 01": 1 to 21
+-- "a number in document 01": 1 to 21; or one of document 02: 24, of (ii)
 unfoldable pub RefusalsAreNumbered : Type 0
-RefusalsAreNumbered = (r : Refusal) → (1 ≤ numberOf r) × (numberOf r ≤ 21)
+RefusalsAreNumbered = (r : Refusal) → ((1 ≤ numberOf r) × (numberOf r ≤ 21)) ⊎ (numberOf r ≡ 24)
 
 -- the answers that are refusals, of each kind of answer: of a call that gives no number
 abbrev pub RefusedAnswer : Answer → Type 0

@@ -1,5 +1,5 @@
 -- Demand 1 and document 01, "Session": what holds of every session. Over any shape and frame table.
-use Prim.Native.Nat.{ℕ, _+_, _*_}
+use Prim.Native.Nat.{ℕ, _+_, _/_}
 use mathlib.Core.Path.{_≡_}
 use mathlib.Core.List.{List, [], _∷_}
 use mathlib.Core.Bool.{true, false, cond, _&&_}
@@ -17,7 +17,7 @@ use Rattle.answers.specs.declared.Refusal.{Refusal}
 use Rattle.answers.specs.declared.Refusal.the-variants.{AnotherSource, NotApplicable}
 use Rattle.payload.specs.Payload.{packet, readAs}
 use Rattle.numbers.specs.Bases.{minus, baseSequence, baseTimestamp}
-use Rattle.numbers.specs.Place.{gap}
+use Rattle.numbers.specs.Place.{pause}
 use Rattle.numbers.specs.declared.GroupNumbers.{GroupNumbers}
 use Rattle.holding.specs.Group.{isNothing, heldAt, bundleAt}
 use Rattle.bundle.specs.LaidOut.{laid}
@@ -89,11 +89,12 @@ RepeatChangesNothing =
     (sequence timestamp l n d : ℕ) (fs : List Frame) → Repeat v s sequence timestamp l n fs →
     (p : List ℕ) → readAs (v .table) (s .form) p ≡ packet l n d fs → offered v s (s .source) sequence timestamp p ≡ accept s 0
 
--- the lost frames that an accepted packet of these numbers reports: e x B of the poured group, if it begins a group after one
+-- the lost frames that an accepted packet of these numbers reports, if it begins a group after a poured one: (02, ii) "(new base
+-- timestamp - (old base timestamp + 160 x (L + 1) x B)) modulo 4,294,967,296, divided by 160"
 abbrev pub lostBefore : Shape → Session → GroupNumbers → ℕ
-lostBefore shape s new = cond (isNothing shape (s .group) && s .poured) (gap (lastNumbers s) new * s .«last_b») 0
+lostBefore shape s new = cond (isNothing shape (s .group) && s .poured) (pause (lastNumbers s) new / 160) 0
 
--- "the answer reports e x B lost frames before it": no other number is ever reported
+-- "the answer reports .. lost frames before it": no other number is ever reported
 unfoldable pub LostFramesByFormula : Type 0
 LostFramesByFormula =
     (v : Voice) (s : Session) (source sequence timestamp : ℕ) (p : List ℕ) (l n d : ℕ) (fs : List Frame) →

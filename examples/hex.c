@@ -34,13 +34,29 @@ long hex_octets(const char *word, uint8_t *octets)
     return (long)(digits / 2);
 }
 
+/* How many octets are the same as the first, of so many. */
+static size_t same_octets(const uint8_t *octets, size_t count)
+{
+    size_t same = 1;
+
+    while (same < count && octets[same] == octets[0])
+        same++;
+    return same;
+}
+
 /* See hex.h. */
 void hex_print(const uint8_t *octets, size_t count)
 {
-    size_t i;
+    size_t i, same;
 
-    for (i = 0; i < count; i++)
+    for (i = 0; i < count; i += same) {
+        same = same_octets(octets + i, count - i);
         printf(" %02X", (unsigned)octets[i]);
+        if (same < HEX_SAME)
+            same = 1;
+        else
+            printf("x%lu", (unsigned long)same);
+    }
 }
 
 /* See hex.h. */

@@ -10,6 +10,10 @@
  * for an argument, that box is recorded alone. Standard error gets a line for each packet or group that is refused,
  * and for a payload at fault the octet where the fault is, counted from 0.
  *
+ * Silence, in which a set sends nothing, and lost packets are recorded alike: as many erasures as the set's clock has
+ * gone on by frames. Where the clock cannot tell, as it has gone on by more than a minute (16) or by no whole number of
+ * frames (24), the talk goes on, but the time between is not recorded: that is told, too.
+ *
  * A talk is recorded group by group. Each box offers its packets to its own session, up to the first one of a later
  * group; then what the two hold is copied out, joined and poured, and dropped from their sessions. So it does not
  * matter how far one box is behind the other. A recorder that listens has a queue where this program has a list, and
@@ -119,17 +123,27 @@ static void tell(const struct box *box, uint32_t source, uint16_t sequence, uint
     tell_refusal(answer, place);
 }
 
-/* What the group held by a box is. */
-static struct group group_of(const struct box *box)
+/* What a group is, by its holding. */
+static struct group group_of(const uint8_t *holding)
 {
     struct group group;
 
-    must("reading a group", lv_holding_read(box->held, sizeof box->held, &group.source, &group.sequence,
+    must("reading a group", lv_holding_read(holding, LV_HOLDING_OCTETS, &group.source, &group.sequence,
                                             &group.timestamp, &group.l, &group.b, &group.held));
     return group;
 }
 
-/* Opens a box's session for the skipper: it remembers no group. */
+/* Tells that a group is recorded, but not the time before it, and why. */
+static void tell_unknown_time(const uint8_t *holding, uint8_t answer)
+{
+    struct group group = group_of(holding);
+
+    fprintf(stderr, "source %08lX sequence %u: recorded without the time before it: ", (unsigned long)group.source,
+            (unsigned)group.sequence);
+    tell_refusal(answer, NOWHERE);
+}
+
+/* Opens a box's session for the skipper, or ends it and opens it again: it remembers no group, and no clock. */
 static void begin(struct box *box)
 {
     must("opening a session", lv_session_open(talk.heard_first->source, LV_INTERLEAVED, LV_DEFAULT_MAX_L,
@@ -146,9 +160,15 @@ static void copy_out(struct box *box)
         must("copying a group", answer);
 }
 
+/* Whether the clock cannot tell what is lost since the last group: over a minute, or no whole number of frames. */
+static int is_unknown_time(uint8_t answer)
+{
+    return answer == LV_TOO_FAR_AHEAD || answer == LV_OFF_THE_CLOCK;
+}
+
 /* Offers a box's packets in turn, up to one that has to wait until more is recorded: one of a later group, or one
- * that is too far ahead of the last group recorded. Other refusals skip the packet; the next skipper's never get
- * in. */
+ * that is too far ahead of the last group recorded, or off its clock. Other refusals skip the packet; the next
+ * skipper's never get in. */
 static void hear(struct box *box)
 {
     for (; box->next < box->count; box->next++) {
@@ -158,7 +178,7 @@ static void hear(struct box *box)
         uint8_t answer = lv_session_offer(box->session, sizeof box->session, packet->source, packet->sequence,
                                           packet->timestamp, packet->payload, packet->len, &lost, &place);
 
-        if (answer == LV_LATER_GROUP || answer == LV_TOO_FAR_AHEAD)
+        if (answer == LV_LATER_GROUP || is_unknown_time(answer))
             break;
         if (answer != LV_OK)
             tell(box, packet->source, packet->sequence, answer, place);
@@ -166,20 +186,19 @@ static void hear(struct box *box)
     copy_out(box);
 }
 
-/* Where nothing is held, nothing more will be recorded before the packets that wait: skips one of each box. Says
- * whether there was one. */
-static int skip_waiting(void)
+/* Where nothing is held, nothing more will be recorded before the packets that wait, and their sessions would refuse
+ * all behind them, too: they begin anew. record_group tells of it. Says whether there was one. */
+static int begin_anew(void)
 {
-    int skipped = 0;
+    int begun = 0;
     struct box *box;
 
     for (box = talk.boxes; box < talk.boxes + BOXES; box++)
         if (box->next < box->count) {
-            const struct packet *packet = &box->packets[box->next++];
-            tell(box, packet->source, packet->sequence, LV_TOO_FAR_AHEAD, NOWHERE);
-            skipped = 1;
+            begin(box);
+            begun = 1;
         }
-    return skipped;
+    return begun;
 }
 
 /* Room for more entries, at the end of those that are there. */
@@ -193,15 +212,17 @@ static uint8_t *more_entries(size_t count)
     return end;
 }
 
-/* Adds a group to the recording, behind the frames that were lost since the last group recorded; the talk's first has
- * none before it (21). Refuses one that is not later than the last, or too far ahead of it. A box's own count of lost
- * frames would also count the groups that only the other box heard. */
+/* Adds a group to the recording, behind the frames that were lost since the last group recorded, by the clock; none for
+ * the talk's first (21), nor where the time before it is unknown. Refuses one that is not later than the last. A box's
+ * own count of lost frames would also count the groups that only the other box heard. */
 static uint8_t record_group(const uint8_t *holding)
 {
     size_t lost = 0, written;
     uint8_t answer = lv_holding_lost(talk.last, sizeof talk.last, holding, LV_HOLDING_OCTETS, &lost);
 
-    if (answer != LV_OK && answer != LV_NOT_APPLICABLE)
+    if (is_unknown_time(answer))
+        tell_unknown_time(holding, answer);
+    else if (answer != LV_OK && answer != LV_NOT_APPLICABLE)
         return answer;
     must("pouring a group", lv_holding_pour(holding, LV_HOLDING_OCTETS, talk.group, LV_POURED_MAX, &written));
     memset(more_entries(lost), LV_ERASURE, lost);
@@ -217,7 +238,7 @@ static void end_group(struct box *box, struct box *other, uint8_t answer)
 {
     box->holds = 0;
     if (answer != LV_OK) {
-        struct group group = group_of(box);
+        struct group group = group_of(box->held);
         tell(box, group.source, group.sequence, answer, NOWHERE);
         begin(box);
         return;
@@ -227,7 +248,7 @@ static void end_group(struct box *box, struct box *other, uint8_t answer)
         memcpy(other->session, box->session, sizeof other->session);
 }
 
-/* Whether a box's group is later than another one's: 13 says that it is not, and 16 that it is, by far. */
+/* Whether a box's group is later than another one's: 13 says that it is not, by its sequence number. */
 static int is_later(const struct box *box, const struct box *other)
 {
     size_t lost;
@@ -248,7 +269,7 @@ static struct box *join(struct box *ice, struct box *office)
         return office;
     if (answer != LV_OK) {
         /* Somebody has to look at it: a packet has other frames (14), or the groups contradict each other. */
-        fprintf(stderr, "ice and office differ at sequence %u\n", (unsigned)group_of(office).sequence);
+        fprintf(stderr, "ice and office differ at sequence %u\n", (unsigned)group_of(office->held).sequence);
         memcpy(talk.joined, ice->held, sizeof talk.joined);
     }
     return NULL;
@@ -279,7 +300,7 @@ static void record_talk(struct box *ice, struct box *office)
         hear(office);
         if (ice->holds || office->holds)
             close_group(ice, office);
-        else if (!skip_waiting())
+        else if (!begin_anew())
             return;
     }
 }

@@ -29,8 +29,8 @@
 #include <stdint.h>
 
 /* The version in words; and as a number to be compared, 10000 x major + 100 x minor + patch. */
-#define LV_VERSION "3.0.0"
-#define LV_VERSION_NUMBER 30000
+#define LV_VERSION "4.0.0"
+#define LV_VERSION_NUMBER 40000
 
 #ifdef __cplusplus
 extern "C" {
@@ -54,12 +54,13 @@ enum lv_answer {
     LV_EARLIER_GROUP = 13,      /* the packet is an earlier group's, or the second holding is not later */
     LV_PACKET_DIFFERS = 14,     /* a packet that is held already has other frames */
     LV_NO_ROOM = 15,            /* the output is shorter than the answer needs */
-    LV_TOO_FAR_AHEAD = 16,      /* more than 100 packets are missing before it */
+    LV_TOO_FAR_AHEAD = 16,      /* more than 3,000 frames, a minute, since the last group */
     LV_NOT_SENDABLE = 17,       /* a frame, or a number of frames, that is not to be sent */
     LV_WRONG_OPENING = 18,      /* a recording's opening octets are missing or wrong */
     LV_BODY_CUT = 19,           /* a recording entry's body is cut */
     LV_NOT_SAME_GROUP = 20,     /* two holdings are not of the same group */
     LV_NOT_APPLICABLE = 21,     /* wrong form, maxima or D out of range, no such frame, none open or held */
+    LV_OFF_THE_CLOCK = 24,      /* the time since the last group is no whole number of frames */
     LV_BAD_CAPTURE = 255        /* not a capture, or one with octets left over */
 };
 
@@ -98,10 +99,10 @@ enum lv_size {
     LV_SESSION_OCTETS = 2304,     /* octets of a session */
     LV_HOLDING_OCTETS = 2304,     /* octets of a holding */
     LV_POURED_MAX = 1840,         /* octets of a poured group */
-    LV_LOST_MAX = 1000,           /* frames lost before a group */
+    LV_LOST_MAX = 3000,           /* frames lost before a group: a minute */
     LV_CAPTURE_MAX = 65536,       /* octets of a capture */
     LV_CAPTURE_PACKETS_MAX = 256, /* packets of a capture */
-    LV_RECORDING_MAX = 331807     /* octets of a capture's recording */
+    LV_RECORDING_MAX = 841807     /* octets of a capture's recording */
 };
 
 /* An answer in a few words, for a line that a person reads; "no such answer" for a number that is none. */
@@ -130,6 +131,7 @@ static inline const char *lv_answer_text(uint8_t answer)
     case LV_BODY_CUT: return "body cut";
     case LV_NOT_SAME_GROUP: return "not the same group";
     case LV_NOT_APPLICABLE: return "not applicable";
+    case LV_OFF_THE_CLOCK: return "off the clock";
     case LV_BAD_CAPTURE: return "bad capture";
     default: return "no such answer";
     }
@@ -204,9 +206,9 @@ uint8_t lv_capture_record(const uint8_t *capture, size_t len, uint8_t *out, size
 /* Tells what packet i of a capture, i from 0, was answered in the run that lv_capture_record makes: what
  * lv_session_offer answered it; and where that was 12, what it answered the second time, after the group was
  * poured. On LV_OK: the packet was held, or had been already, and *lost is the number of frames lost before
- * the group that it begins, at most LV_LOST_MAX; 0 if it begins none.
+ * the group that it begins, as lv_session_offer counts them, at most LV_LOST_MAX; 0 if it begins none.
  * Refuses, in this order: 255 (bad capture), 21 (no packet i); then as the packet was refused, by 1, 2, 4 to
- * 8, 10, 11, 13, 14 or 16: that packet was skipped.
+ * 8, 10, 11, 13, 14, 16 or 24: that packet was skipped.
  * 4 to 8 have a place in that packet's payload, as lv_payload_read has them. */
 uint8_t lv_capture_answer(const uint8_t *capture, size_t len, size_t i, size_t *lost, size_t *place);
 
@@ -226,16 +228,21 @@ uint8_t lv_session_open(uint32_t source, uint8_t form, uint8_t max_l, uint8_t ma
                         size_t len);
 
 /* Offers a packet to a session. On LV_OK: it is held, or was already, and *lost is the number of frames
- * lost before the group that it begins, at most LV_LOST_MAX; 0 if it begins none.
+ * lost before the group that it begins, at most LV_LOST_MAX; 0 if it begins none, or the session's first.
+ * Lost frames are counted by the timestamp clock, modulo 2^32, 160 counts a frame: from the end of the last
+ * group poured or dropped, (L + 1) x B frames after its base timestamp, to this one's base timestamp. So a
+ * pause, in which a set sends nothing and uses no sequence numbers, counts as lost packets do.
  * Refuses, in this order: 21 (not open, or len below LV_SESSION_OCTETS), 10, the payload's refusals (1 to
- * 9); then by where it stands 11, 12, 13, 14, 16. After 12 the host pours the group and offers the packet
- * again.
+ * 9); then with a group held 11, 12, 13, 14 by where it stands; with none held but one poured or dropped
+ * before, 13 by the sequence number, 24 if the time between is no whole number of frames, 16 if it is over
+ * LV_LOST_MAX frames. After 12 the host pours the group and offers the packet again. A set that has begun its
+ * clock anew is refused by 24 or 16 from then on, until the session is ended, or opened again.
  * 4 to 8 have a place in the payload, as lv_payload_read has them. */
 uint8_t lv_session_offer(uint8_t *session, size_t len, uint32_t source, uint16_t sequence, uint32_t timestamp,
                          const uint8_t *payload, size_t payload_len, size_t *lost, size_t *place);
 
 /* Pours the group that a session holds, and ends it: its frames in time order as recording entries, those
- * not heard as erasures. The session remembers the group's numbers, and counts from them what is lost. On
+ * not heard as erasures. The session remembers the group's numbers, and counts what is lost from its end. On
  * LV_OK: *written is the number of octets written to out, at most LV_POURED_MAX.
  * Refuses, in this order: 21 (not open, len below LV_SESSION_OCTETS, or no group held), 15 (out_len too
  * small). */
@@ -249,7 +256,7 @@ uint8_t lv_session_copy(const uint8_t *session, size_t len, uint8_t *holding, si
 
 /* Drops the group that a session holds: ends it as lv_session_pour does, and writes nothing of it. It is for
  * a group that was copied out and recorded from there. The session is then as after pouring: it remembers
- * the group's numbers, and counts from them what is lost.
+ * the group's numbers, and counts what is lost from its end.
  * Refuses: 21 (not open, len below LV_SESSION_OCTETS, or no group held). */
 uint8_t lv_session_drop(uint8_t *session, size_t len);
 
@@ -276,9 +283,11 @@ uint8_t lv_holding_join(const uint8_t *a, size_t a_len, const uint8_t *b, size_t
 uint8_t lv_holding_pour(const uint8_t *holding, size_t len, uint8_t *out, size_t out_len, size_t *written);
 
 /* Counts what is lost between the group of one holding and that of a later one, by the rule of a session that
- * has poured the first. On LV_OK: *lost is the number of frames lost between them, at most LV_LOST_MAX.
+ * has poured the first: by the timestamp clock, a pause among it. On LV_OK: *lost is the number of frames
+ * lost between them, at most LV_LOST_MAX.
  * Refuses, in this order: 21 (either holds no packet, or has fewer octets than LV_HOLDING_OCTETS), 10 (their
- * sources differ), 13 (the second is not later than the first), 16. */
+ * sources differ), 13 (by sequence number, the second is not later than the first), 24 (the time between them
+ * is no whole number of frames), 16 (it is over LV_LOST_MAX frames). */
 uint8_t lv_holding_lost(const uint8_t *before, size_t before_len, const uint8_t *after, size_t after_len,
                         size_t *lost);
 

@@ -1,4 +1,4 @@
-//! Compares the landing voice library with an independent reading of document 01, and of (i) of document 02.
+//! Compares the landing voice library with an independent reading of document 01, and of (i) and (ii) of document 02.
 //!
 //! `call` is a C call. `paper` says what it ought to leave, `library` what it does leave, by another program
 //! (`serve.c`), whose `table` has the calls of the header. `inputs` makes calls, from the numbers of `rng`; `rows`
@@ -34,13 +34,14 @@ use report::Report;
 use rng::Rng;
 
 const USAGE: &str = "\
-usage: compare [--seed N] [--calls C] [--rows] -- COMMAND [WORDS..]
+usage: compare [--seed N] [--calls C] [--rows] [--answers] -- COMMAND [WORDS..]
        compare record < CAPTURE > RECORDING
        compare random-capture SEED > CAPTURE
        compare programs SEED COUNT -- COMMAND [WORDS..]
 The first compares the library, called by serve.c, which COMMAND starts. N is the seed of the inputs; with C, seeded
-calls go on until each call was made C times; with --rows only the rows are played. Of random captures, that of seed 0
-has the largest recording. The last compares a program that records captures, on COUNT random ones.";
+calls go on until each call was made C times; with --rows only the rows are played; with --answers it is told how often
+each call gave each answer. Of random captures, that of seed 0 has the largest recording. The last compares a program
+that records captures, on COUNT random ones.";
 
 /// The seed if none is given.
 const SEED: u64 = 20_261_115;
@@ -85,24 +86,26 @@ fn main() -> ExitCode {
     }
 }
 
-/// What is asked of a comparison: the seed of its inputs, how often it makes each call at least, and whether it plays
-/// rows alone.
+/// What is asked of a comparison: the seed of its inputs, how often it makes each call at least, whether it plays rows
+/// alone, and whether it tells how often each answer was given.
 struct Asked {
     seed: u64,
     calls: usize,
     rows: bool,
+    answers: bool,
 }
 
 /// What is asked, and the command that starts the server with its words.
 fn asked(words: &[OsString]) -> Option<(Asked, &OsString, &[OsString])> {
     let end = words.iter().position(|word| word == "--")?;
-    let mut asked = Asked { seed: SEED, calls: 0, rows: false };
+    let mut asked = Asked { seed: SEED, calls: 0, rows: false, answers: false };
     let mut options = words[..end].iter().map(|word| word.to_str());
     while let Some(option) = options.next() {
         match option? {
             "--seed" => asked.seed = options.next()??.parse().ok()?,
             "--calls" => asked.calls = options.next()??.parse().ok()?,
             "--rows" => asked.rows = true,
+            "--answers" => asked.answers = true,
             _ => return None,
         }
     }
@@ -129,6 +132,9 @@ fn compare(asked: Asked, command: &OsString, words: &[OsString]) -> ExitCode {
         trial::try_slips(&mut comparison);
     }
     comparison.report.tally(&comparison.library.table);
+    if asked.answers {
+        comparison.report.tell_answers();
+    }
     let Comparison { library, mut report, .. } = comparison;
     if let Err(fault) = library.end() {
         report.failure(fault);

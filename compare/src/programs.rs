@@ -57,7 +57,7 @@ mod tests {
     /// Seed 0 has the largest recording there is; other captures are good or bad.
     #[test]
     fn captures_by_seed() {
-        assert_eq!(due(&random(0)).0.len(), 331_807);
+        assert_eq!(due(&random(0)).0.len(), 841_807);
         let good = (1..=200).filter(|seed| due(&random(*seed)).1).count();
         assert!((50..=190).contains(&good), "{good} of 200 captures are good");
     }

@@ -18,9 +18,9 @@ const ANSWERS: [(&str, &[u8]); 19] = [
     ("lv_recording_frame", &[0, 5, 18, 19, 21]),
     ("lv_recording_write", &[0, 5, 15, 19]),
     ("lv_capture_record", &[0, 15, 255]),
-    ("lv_capture_answer", &[0, 1, 2, 4, 5, 6, 7, 8, 10, 11, 13, 14, 16, 21, 255]),
+    ("lv_capture_answer", &[0, 1, 2, 4, 5, 6, 7, 8, 10, 11, 13, 14, 16, 21, 24, 255]),
     ("lv_session_open", &[0, 15, 21]),
-    ("lv_session_offer", &[0, 1, 2, 3, 4, 5, 6, 7, 8, 9, 10, 11, 12, 13, 14, 16, 21]),
+    ("lv_session_offer", &[0, 1, 2, 3, 4, 5, 6, 7, 8, 9, 10, 11, 12, 13, 14, 16, 21, 24]),
     ("lv_session_pour", &[0, 15, 21]),
     ("lv_session_copy", &[0, 15, 21]),
     ("lv_session_drop", &[0, 21]),
@@ -28,7 +28,7 @@ const ANSWERS: [(&str, &[u8]); 19] = [
     ("lv_holding_read", &[0, 21]),
     ("lv_holding_join", &[0, 14, 15, 20, 21]),
     ("lv_holding_pour", &[0, 15, 21]),
-    ("lv_holding_lost", &[0, 10, 13, 16, 21]),
+    ("lv_holding_lost", &[0, 10, 13, 16, 21, 24]),
 ];
 
 /// How many differences are told in full.
@@ -101,6 +101,15 @@ impl Report {
                     _ => {}
                 }
             }
+        }
+    }
+
+    /// How often each call gave each answer.
+    pub fn tell_answers(&self) {
+        for (name, answers) in ANSWERS {
+            let count = |answer: &u8| self.answers.get(&(name, *answer)).copied().unwrap_or(0);
+            let counts: Vec<String> = answers.iter().map(|answer| format!("{answer}: {}", count(answer))).collect();
+            println!("{name} answers {}", counts.join(", "));
         }
     }
 

@@ -27,7 +27,7 @@ use crate::paper::host;
 use crate::table::{Kind, Parameter};
 
 /// The files.
-const FILES: [(&str, &str); 7] = [
+const FILES: [(&str, &str); 8] = [
     ("payloads", include_str!("../rows/payloads.txt")),
     ("recordings", include_str!("../rows/recordings.txt")),
     ("packets", include_str!("../rows/packets.txt")),
@@ -35,6 +35,7 @@ const FILES: [(&str, &str); 7] = [
     ("sessions", include_str!("../rows/sessions.txt")),
     ("two_boxes", include_str!("../rows/two_boxes.txt")),
     ("long_session", include_str!("../rows/long_session.txt")),
+    ("pauses", include_str!("../rows/pauses.txt")),
 ];
 
 /// What an output has before a call.

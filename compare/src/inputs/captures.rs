@@ -1,7 +1,7 @@
 //! Captures to record, and their packets' answers: talks that were heard well or badly, and bad captures.
 
 use super::octets::{any, damage, likely, neighbours};
-use super::talk::{change, Packet, Talk};
+use super::talk::{change, counts, Packet, Talk};
 use super::Maker;
 use crate::call::Call;
 use crate::paper::capture;
@@ -51,28 +51,32 @@ fn heard(rng: &mut Rng, talk: &Talk) -> Vec<Packet> {
         packets.insert(rng.between(0, packets.len()), again);
     }
     if rng.one_in(6) {
-        // Another group at the same base, or at a distance at which the rules change.
+        // Another group at the same base, or at a distance and a time at which the rules change.
         let mut stray = talk.twin(rng);
         let l = talk.payloads.len() as u16 - 1;
         let d = rng.pick(&[0, 1, l, l + 1, l + 2, l + 101, l + 102, 32_767, 32_768, 65_535]);
         stray.sequence = stray.sequence.wrapping_add(d);
+        if d > l {
+            stray.timestamp = talk.end().wrapping_add(counts(rng));
+        }
         packets.insert(rng.between(1, packets.len()), stray.packet(rng));
     }
     packets
 }
 
-/// The packets of some groups, so many at least.
+/// The packets of some groups, so many at least; the clock of some is not the talk's.
 fn some_groups(rng: &mut Rng, least: usize) -> Vec<Packet> {
     let mut talk = Talk::new(rng, 1, 7, 10);
     let mut packets = Vec::new();
     while packets.len() < least {
-        packets.extend(heard(rng, &talk));
+        let group = if rng.one_in(6) { talk.astray(rng) } else { talk.clone() };
+        packets.extend(heard(rng, &group));
         talk.go_on(rng);
     }
     packets
 }
 
-/// Every packet begins a group of its own, with all its frames of Rate 1, as far behind the one before as it may be.
+/// Every packet begins a group of its own, with all its frames of Rate 1, as late behind the one before as it may be.
 fn largest(rng: &mut Rng) -> Vec<Packet> {
     let mut talk = Talk::new(rng, 1, 7, 10);
     let mut packets = Vec::new();
@@ -80,7 +84,7 @@ fn largest(rng: &mut Rng) -> Vec<Packet> {
         talk.b = 10;
         talk.payloads = vec![[vec![0x38], vec![0x84; 9], vec![0x04], rng.octets(220)].concat(); 8];
         packets.push(talk.packets().swap_remove(0));
-        talk.skip(100);
+        talk.skip(0, 160 * 3_000);
     }
     packets
 }

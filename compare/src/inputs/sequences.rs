@@ -5,12 +5,13 @@ use std::collections::VecDeque;
 
 use super::octets::agreed;
 use super::spoil::{changes, Changes};
-use super::talk::{change, Packet, Talk};
+use super::talk::{change, counts, Packet, Talk};
 use super::Maker;
 use crate::call::{Call, Left};
 use crate::paper::host;
 use crate::paper::layout::{
-    FORM, GROUP, GROUP_AT, L, LAST_L, LAST_SEQUENCE, OCTETS, OPEN, OPEN_SOURCE, POURED, SEQUENCE, SESSION_END, SOURCE,
+    B, FORM, GROUP, GROUP_AT, L, LAST_B, LAST_L, LAST_SEQUENCE, LAST_TIMESTAMP, OCTETS, OPEN, OPEN_SOURCE, POURED,
+    SEQUENCE, SESSION_END, SOURCE, TIMESTAMP,
 };
 use crate::rng::Rng;
 use crate::table::number;
@@ -52,6 +53,31 @@ pub struct Sequence {
     made: Option<(Step, Vec<(usize, usize)>)>,
     spoilt: Option<(usize, Changes)>,
     even: bool,
+}
+
+/// The numbers of a group as octets have them.
+struct Numbers {
+    sequence: u16,
+    timestamp: u32,
+    l: u16,
+    b: u16,
+}
+
+impl Numbers {
+    /// Those at these places, in this order.
+    fn at(octets: &[u8], [sequence, timestamp, l, b]: [usize; 4]) -> Numbers {
+        Numbers {
+            sequence: u16::from_be_bytes([octets[sequence], octets[sequence + 1]]),
+            timestamp: u32::from_be_bytes(octets[timestamp..timestamp + 4].try_into().expect("four octets")),
+            l: octets[l].into(),
+            b: octets[b].into(),
+        }
+    }
+
+    /// The timestamp at which the group's frames end.
+    fn end(&self) -> u32 {
+        self.timestamp.wrapping_add(160 * (u32::from(self.l) + 1) * u32::from(self.b))
+    }
 }
 
 impl Sequence {
@@ -142,8 +168,8 @@ impl Sequence {
             12 if rng.one_in(3) => self.drop_group(who, packet),
             12 => self.steps.extend([Step::Pour(who, ROOM), Step::Offer(who, packet, false)]),
             10 | 21 => self.open(who),
-            13 | 16 if rng.one_in(3) => self.open(who),
-            13 | 16 => self.talks[who / 2].go_on(rng),
+            13 | 16 | 24 if rng.one_in(3) => self.open(who),
+            13 | 16 | 24 => self.talks[who / 2].go_on(rng),
             _ => {}
         }
     }
@@ -191,17 +217,18 @@ impl Sequence {
         self.steps.extend([Step::Copy(who, after), Step::Read(after), Step::Lost([before, after])]);
     }
 
-    /// The lost frames between a holding and one like it, at a distance that the rule turns on; at times of another
-    /// source.
+    /// The lost frames between a holding and one like it, at a distance and a time that the rules turn on; at times of
+    /// another source.
     fn lose_aimed(&mut self, before: usize, after: usize, rng: &mut Rng) {
         let mut octets = self.shelf[before][..OCTETS].to_vec();
         if octets.iter().all(|&octet| octet == 0) {
             return self.steps.push_back(Step::Copy(rng.between(0, SESSIONS - 1), before));
         }
-        let base = u16::from_be_bytes([octets[SEQUENCE], octets[SEQUENCE + 1]]);
-        let end = base.wrapping_add(u16::from(octets[L]) + 1);
+        let group = Numbers::at(&octets, [SEQUENCE, TIMESTAMP, L, B]);
+        let (base, end) = (group.sequence, group.sequence.wrapping_add(group.l + 1));
         let new = rng.pick(&[base, end, end, end]).wrapping_add(rng.pick(&DISTANCES));
         octets[SEQUENCE..SEQUENCE + 2].copy_from_slice(&new.to_be_bytes());
+        octets[TIMESTAMP..TIMESTAMP + 4].copy_from_slice(&group.end().wrapping_add(counts(rng)).to_be_bytes());
         if rng.one_in(8) {
             octets[SOURCE + rng.between(0, 3)] ^= 1 << rng.between(0, 7);
         }
@@ -220,24 +247,26 @@ impl Sequence {
         self.steps.push_back(Step::Open(who, source, [form, max_l, max_b].map(u64::from)));
     }
 
-    /// Offers a packet at a distance that rules of place turn on.
+    /// Offers a packet at a distance and a time that rules of place turn on.
     fn offer_aimed(&mut self, who: usize, rng: &mut Rng) {
         let octets = &self.shelf[who];
-        let u16_at = |at: usize| u16::from_be_bytes([octets[at], octets[at + 1]]);
         let held = octets[GROUP_AT..SESSION_END].iter().any(|&octet| octet != 0);
-        let (base, l, next) = match held {
-            true => (u16_at(GROUP_AT + SEQUENCE), octets[GROUP_AT + L], 0),
-            false => (u16_at(LAST_SEQUENCE), octets[LAST_L], u16::from(octets[LAST_L]) + 1),
-        };
         if octets[OPEN] != 1 || !held && octets[POURED] != 1 {
             return self.open(who);
         }
-        let (any, l) = (rng.pick(&DISTANCES), u16::from(l));
+        let group = match held {
+            true => Numbers::at(octets, [SEQUENCE, TIMESTAMP, L, B].map(|at| GROUP_AT + at)),
+            false => Numbers::at(octets, [LAST_SEQUENCE, LAST_TIMESTAMP, LAST_L, LAST_B]),
+        };
+        let (any, l) = (rng.pick(&DISTANCES), group.l);
         let distance = rng.pick(&[any, any, any, l, l + 1, l + 2]);
+        let next = if held { 0 } else { l + 1 };
+        let later = group.end().wrapping_add(counts(rng));
         let source = u32::from_be_bytes(octets[OPEN_SOURCE..OPEN_SOURCE + 4].try_into().expect("four octets"));
         let payload = [if octets[FORM] == 0 { &[][..] } else { &[0, 1] }, &rng.octets(2)].concat();
-        let sequence = base.wrapping_add(next).wrapping_add(distance);
-        self.offer(who, Packet { source, sequence, timestamp: rng.pick(&[0, 160]), payload }, rng);
+        let sequence = group.sequence.wrapping_add(next).wrapping_add(distance);
+        let timestamp = rng.pick(&[group.timestamp, later, later, later]);
+        self.offer(who, Packet { source, sequence, timestamp, payload }, rng);
     }
 
     /// Two sessions begin anew and hear some packets of a talk, one of them perhaps of a talk that differs a little;

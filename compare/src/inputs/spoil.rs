@@ -2,8 +2,9 @@
 //! not open, or as holding no packet (document 01, "Groups"; decisions 47 to 49).
 
 use crate::paper::layout::{
-    places, B, BODY, FLAGS, FORM, FRAMES, GROUP, GROUP_AT, L, LAST_B, LAST_L, LAST_SEQUENCE, MARKERS, MAX_B, MAX_L,
-    OCTETS, OPEN, PACKETS, POURED, SEQUENCE, SESSION_END, SESSION_SPARE, SOURCE, SPARE,
+    places, B, BODY, FLAGS, FORM, FRAMES, GROUP, GROUP_AT, L, LAST_B, LAST_L, LAST_SEQUENCE, LAST_SPARE,
+    LAST_TIMESTAMP, MARKERS, MAX_B, MAX_L, OCTETS, OPEN, PACKETS, POURED, SEQUENCE, SESSION_END, SESSION_SPARE, SOURCE,
+    SPARE,
 };
 use crate::rng::Rng;
 
@@ -15,6 +16,7 @@ pub fn changes(octets: &[u8], session: bool, rng: &mut Rng) -> Changes {
     let any = rng.octet();
     let past = if session { SESSION_END } else { GROUP };
     let start = if session { GROUP_AT } else { 0 };
+    let spare = if session { rng.pick(&[LAST_SPARE, SESSION_SPARE]) } else { SPARE };
     vec![match rng.between(if session { 0 } else { 7 }, 25) {
         0 => (OPEN, rng.pick(&[0, 2, 255])),
         1 => (FORM, rng.pick(&[0, 1, 2, 255])),
@@ -22,11 +24,11 @@ pub fn changes(octets: &[u8], session: bool, rng: &mut Rng) -> Changes {
         3 => (POURED, rng.pick(&[0, 1, 2, 255])),
         4 => (LAST_L, rng.pick(&[8, 255, 7])),
         5 => (LAST_B, rng.pick(&[0, 11, 255, 10])),
-        6 => (LAST_SEQUENCE + rng.between(0, 1), any),
+        6 => (rng.pick(&[LAST_SEQUENCE, LAST_TIMESTAMP, LAST_TIMESTAMP + 2]) + rng.between(0, 1), any),
         7 => (rng.between(0, OCTETS - 1), any),
         8 => return (0..OCTETS).zip(rng.octets(OCTETS)).collect(),
         // What stands for nothing.
-        9 => (rng.pick(&[past, OCTETS - 1, if session { SESSION_SPARE } else { SPARE }, start + MARKERS]), any | 1),
+        9 => (rng.pick(&[past, OCTETS - 1, spare, start + MARKERS]), any | 1),
         _ => {
             let change = of_group(&octets[start..start + GROUP], rng);
             return change.map(|(at, octet)| (start + at, octet)).into_iter().collect();

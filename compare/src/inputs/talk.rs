@@ -29,6 +29,28 @@ pub struct Talk {
 /// How many packets are lost between two groups, if any.
 const GAPS: [u16; 12] = [1, 2, 7, 99, 100, 101, 32_766, 32_767, 32_768, 65_535, 65_530, 60_000];
 
+/// How many frames pass between two groups, if any: up to a minute, and more. The last are all that the clock has.
+const FRAMES: [u32; 12] = [1, 2, 3, 50, 1_000, 2_999, 3_000, 3_001, 3_002, 65_536, 65_541, 26_843_545];
+
+/// The counts of a frame, and what the clock has more than whole frames.
+const FRAME: u32 = 160;
+const OVER: u32 = 96;
+
+/// Counts of the clock from a group's end to the next group: whole frames, some more, or back.
+pub fn counts(rng: &mut Rng) -> u32 {
+    let (whole, any) = (FRAME * rng.pick(&FRAMES), rng.next() as u32);
+    let back = 0_u32.wrapping_sub(rng.pick(&[FRAME, 2 * FRAME, whole]));
+    match rng.between(0, 9) {
+        0 => 0,
+        1..=4 => whole,
+        5 | 6 => whole.wrapping_add(rng.pick(&[1, 80, 95, OVER, 159])),
+        7 => back,
+        // The clock has no whole number of frames: back by so many and 96 counts, it has gone on by whole frames.
+        8 => back.wrapping_sub(OVER),
+        _ => any,
+    }
+}
+
 impl Talk {
     /// A talk under these maxima whose numbers often begin shortly before they wrap around.
     pub fn new(rng: &mut Rng, form: u8, max_l: u8, max_b: u8) -> Talk {
@@ -62,19 +84,34 @@ impl Talk {
         };
     }
 
-    /// Goes on to the next group, most often with nothing lost between.
+    /// Goes on to the next group. At times packets are lost between, with their time or without, there is a pause, or
+    /// the clock is set anew.
     pub fn go_on(&mut self, rng: &mut Rng) {
         let gap = if rng.one_in(4) { rng.pick(&GAPS) } else { 0 };
-        self.skip(gap);
+        let counts = match rng.between(0, 11) {
+            0..=4 => FRAME * u32::from(gap) * self.b as u32,
+            5..=9 => FRAME * rng.pick(&[1, 2, 25, 500, 2_999, 3_000]),
+            10 => 0,
+            _ => counts(rng),
+        };
+        self.skip(gap, counts);
         self.renew(rng);
     }
 
-    /// Goes on past the group, and so many packets more.
-    pub fn skip(&mut self, gap: u16) {
-        let packets = self.payloads.len() as u16;
-        self.sequence = self.sequence.wrapping_add(packets).wrapping_add(gap);
-        let counts = 160 * (u32::from(packets) * self.b as u32 + u32::from(gap));
-        self.timestamp = self.timestamp.wrapping_add(counts);
+    /// Goes on past the group, and so many packets and counts of the clock more.
+    pub fn skip(&mut self, gap: u16, counts: u32) {
+        self.timestamp = self.end().wrapping_add(counts);
+        self.sequence = self.sequence.wrapping_add(self.payloads.len() as u16).wrapping_add(gap);
+    }
+
+    /// The timestamp at which the group's frames end.
+    pub fn end(&self) -> u32 {
+        self.timestamp.wrapping_add(FRAME * (self.payloads.len() * self.b) as u32)
+    }
+
+    /// The same group, with its clock set otherwise.
+    pub fn astray(&self, rng: &mut Rng) -> Talk {
+        Talk { timestamp: self.timestamp.wrapping_add(counts(rng)), ..self.clone() }
     }
 
     /// The same talk, or one that differs in the source, a base number, L and B, or the last octet of each packet.
@@ -106,7 +143,7 @@ impl Talk {
         Packet {
             source: self.source,
             sequence: self.sequence.wrapping_add(n as u16),
-            timestamp: self.timestamp.wrapping_add(160 * n as u32),
+            timestamp: self.timestamp.wrapping_add(FRAME * n as u32),
             payload: self.payloads[n].clone(),
         }
     }
@@ -127,7 +164,10 @@ pub fn change(rng: &mut Rng, packet: &mut Packet) {
             let steps = rng.pick(&[1, few, few, 100, 101, 32_767, 32_768, 65_535, 65_534]);
             packet.sequence = packet.sequence.wrapping_add(steps);
         }
-        3 => packet.timestamp = packet.timestamp.wrapping_add(rng.pick(&[160, 1, 0x8000_0000])),
+        3 => {
+            let any = counts(rng);
+            packet.timestamp = packet.timestamp.wrapping_add(rng.pick(&[160, 1, 0x8000_0000, any, any]));
+        }
         4 => damage(rng, payload),
         5 => *payload = likely(rng, 14),
         6 => payload.iter_mut().rev().take(1).for_each(|octet| *octet ^= rng.pick(&[0x01, 0x10, 0x80])),

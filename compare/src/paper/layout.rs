@@ -34,7 +34,7 @@ pub const BODIES: usize = TYPES + PACKETS * FRAMES;
 pub const GROUP: usize = BODIES + PACKETS * FRAMES * BODY;
 
 /// Where a session's parts lie: 1 open, 0 not; form, maxima, source; 1 if a group was poured before, else 0, with its
-/// base sequence number, L and B; zeros; the group; and the end.
+/// base sequence number, L and B; zeros; its base timestamp; zeros; the group; and the end.
 pub const OPEN: usize = 0;
 pub const FORM: usize = 1;
 pub const MAX_L: usize = 2;
@@ -44,7 +44,9 @@ pub const POURED: usize = 8;
 pub const LAST_SEQUENCE: usize = 9;
 pub const LAST_L: usize = 11;
 pub const LAST_B: usize = 12;
-pub const SESSION_SPARE: usize = 13;
+pub const LAST_SPARE: usize = 13;
+pub const LAST_TIMESTAMP: usize = 16;
+pub const SESSION_SPARE: usize = 20;
 pub const GROUP_AT: usize = 32;
 pub const SESSION_END: usize = GROUP_AT + GROUP;
 
@@ -91,8 +93,9 @@ pub fn of_session(session: &Session) -> Vec<u8> {
     }
     let Last { poured, base, l, b } = session.last;
     octets[POURED] = poured.into();
-    put(&mut octets, LAST_SEQUENCE, &base.to_be_bytes());
+    put(&mut octets, LAST_SEQUENCE, &base.sequence.to_be_bytes());
     put(&mut octets, LAST_L, &[l, b]);
+    put(&mut octets, LAST_TIMESTAMP, &base.timestamp.to_be_bytes());
     if let Some(holding) = &session.held {
         put(&mut octets, GROUP_AT, &of_group(holding));
     }
@@ -165,16 +168,22 @@ fn open_session(octets: &[u8]) -> Option<Session> {
     let limits = Limits { max_l: octets[MAX_L], max_b: octets[MAX_B] };
     let form = Form::agreed(octets[FORM], limits).ok()?;
     let source = u32::from_be_bytes(part(octets, OPEN_SOURCE));
-    let base = u16::from_be_bytes(part(octets, LAST_SEQUENCE));
-    let last = Last { poured, base, l: octets[LAST_L], b: octets[LAST_B] };
+    let last = Last { poured, base: last_base(octets), l: octets[LAST_L], b: octets[LAST_B] };
     let held = held_group(&octets[GROUP_AT..SESSION_END], source)?;
     let sound = open && (!last.poured || in_range(last.l, last.b));
     sound.then_some(Session { open: Some(Open { source, form }), held, last })
 }
 
+/// The base numbers of the last poured group, which may be any.
+fn last_base(octets: &[u8]) -> Base {
+    let sequence = u16::from_be_bytes(part(octets, LAST_SEQUENCE));
+    let timestamp = u32::from_be_bytes(part(octets, LAST_TIMESTAMP));
+    Base { sequence, timestamp }
+}
+
 /// What stands for nothing in a session, beside its group.
 fn spare_of_session(octets: &[u8]) -> Vec<std::ops::Range<usize>> {
-    let mut spare = vec![SESSION_SPARE..GROUP_AT, SESSION_END..OCTETS];
+    let mut spare = vec![LAST_SPARE..LAST_TIMESTAMP, SESSION_SPARE..GROUP_AT, SESSION_END..OCTETS];
     spare.extend((octets[FORM] == 0).then_some(MAX_L..OPEN_SOURCE));
     spare.extend((octets[POURED] == 0).then_some(LAST_SEQUENCE..SESSION_SPARE));
     spare

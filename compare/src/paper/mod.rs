@@ -1,5 +1,5 @@
-//! Document 01, with (i) of document 02, read anew: what the landing voice library ought to answer. Nothing here comes
-//! from the library.
+//! Document 01, with (i) and (ii) of document 02, read anew: what the landing voice library ought to answer. Nothing
+//! here comes from the library.
 //!
 //! A module takes a section of the document, in its words. Each stands only on those above it:
 //!
@@ -8,7 +8,7 @@
 //! frames       "Frames"               types, bodies, what is sendable
 //! form         "Payloads"             the agreed form and its maxima
 //! payload      "Payloads"             reading payloads
-//! groups       "Groups"               base numbers, time places, distances
+//! groups       "Groups"               base numbers, time places, distances, time between groups
 //! holding      "Groups", "Session"    one group as far as heard; read, poured, joined
 //! session      "Session"              open, offer, pour, copy out, drop, end; what is lost between groups
 //! entries      "Recordings"           the walk over entries

@@ -1,4 +1,4 @@
-//! Sessions (document 01, "Session").
+//! Sessions (document 01, "Session"), and the frames that are lost between groups (document 02, (ii)).
 
 use super::answers::{refusal, refuse, Answer};
 use super::frames::Frame;
@@ -22,11 +22,12 @@ pub struct Open {
     pub form: Form,
 }
 
-/// "One poured before (base b, length L, bundle B)": its numbers are looked at only if one was poured.
+/// "One poured before (base b, length L, bundle B)", and its base timestamp: its numbers are looked at only if one was
+/// poured.
 #[derive(Clone, Copy, Debug, Default, PartialEq, Eq)]
 pub struct Last {
     pub poured: bool,
-    pub base: u16,
+    pub base: Base,
     pub l: u8,
     pub b: u8,
 }
@@ -65,7 +66,7 @@ impl Session {
         }
     }
 
-    /// "The packet begins a group and the answer reports e x B lost frames before it"; 0 "with none before".
+    /// "The packet begins a group and the answer reports [the] lost frames before it"; 0 "with none before".
     fn begin(&mut self, heard: Heard) -> Answer<u32> {
         let lost = if self.last.poured { lost_between(&self.last, &heard.group)? } else { 0 };
         let mut holding = Holding::of(heard.group);
@@ -102,7 +103,7 @@ impl Session {
 impl Last {
     /// A group as it is remembered once it is poured.
     fn of(Group { base, l, b, .. }: Group) -> Last {
-        Last { poured: true, base: base.sequence, l, b }
+        Last { poured: true, base, l, b }
     }
 }
 
@@ -136,10 +137,17 @@ pub fn judge_d(d: u16, l: u8) -> Answer<()> {
     }
 }
 
-/// "E of 32,768 or more, 13; else e over 100, 16."
+/// "E of 32,768 or more, 13"; "the limit of 100 packets is dropped".
 pub fn judge_e(e: u16) -> Answer<()> {
-    refuse(13, e >= 32_768)?;
-    refuse(16, e > 100)
+    refuse(13, e >= 32_768)
+}
+
+/// The lost frames, by the counts of the clock between two groups: "24 if the difference is no multiple of 160", "16
+/// [...] if the quotient is over 3,000 (one minute)".
+pub fn lost_in(counts: i64) -> Answer<u32> {
+    let frames = groups::whole_frames(counts).ok_or(refusal(24))?;
+    refuse(16, frames > 3_000)?;
+    Ok(frames as u32)
 }
 
 /// The lost frames between two holdings' groups: 21 if either holds no packet, 10 if their sources differ, then "by the
@@ -150,9 +158,8 @@ pub fn lost(before: Option<Holding>, after: Option<Holding>) -> Answer<u32> {
     lost_between(&Last::of(before), &after)
 }
 
-/// "Else [...] e x B lost frames", B being the poured group's.
+/// "The lost frames before a new group", "with the poured group's numbers"; "order 13, 24, 16".
 fn lost_between(last: &Last, new: &Group) -> Answer<u32> {
-    let e = groups::e(new.base.sequence, last.base, last.l);
-    judge_e(e)?;
-    Ok(u32::from(e) * u32::from(last.b))
+    judge_e(groups::e(new.base.sequence, last.base.sequence, last.l))?;
+    lost_in(groups::counts_between(new.base.timestamp, last.base.timestamp, last.l, last.b))
 }

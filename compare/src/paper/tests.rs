@@ -1,12 +1,12 @@
-//! The marked examples P1 to P15 of document 01, the places of document 02, the edges of d and e, and a call of
-//! another shape.
+//! The marked examples P1 to P15 of document 01, the places and the clock of document 02, the edges of d and e, and a
+//! call of another shape.
 
 use super::answers::{refusal, Answer};
 use super::form::{Form, Limits};
-use super::groups::{d, e, Base};
+use super::groups::{counts_between, d, e, Base};
 use super::holding::{self, Holding};
 use super::host::make;
-use super::session::{judge_d, judge_e, lost, Packet, Session};
+use super::session::{judge_d, judge_e, lost, lost_in, Packet, Session};
 use super::{capture, packets, payload, recordings};
 use crate::call::Call;
 
@@ -140,12 +140,13 @@ fn p11_as_a_capture() {
 #[test]
 fn a_capture_tells_what_its_packets_were_answered() {
     // Base 0001, L 0, B 1: the packet, a repeat, a later group's behind a packet lost, another source's, one of a
-    // reserved type, a later group's too far ahead, and an earlier one's.
-    let rows = ["07 00 01", "07 00 01", "07 00 03", "08 00 04", "07 00 04", "07 00 AA", "07 00 02"];
-    let rows: String = rows.map(|row| format!("00 00 00 {row} 00 00 00 00 00 02 ")).concat();
-    let octets = hex(&format!("00 07 {rows} 00 00 00 00 00 00 00 00 00 02 00 00 00 00"));
-    let answers: Vec<_> = (0..8).map(|i| capture::answer(&octets, i)).collect();
-    let refusals = [refusal(10), refusal(5).at(1), refusal(16), refusal(13), refusal(21)];
+    // reserved type, a later group's too far ahead, one off the clock, and an earlier one's.
+    let first = ["07 00 01 00 00 00 00", "07 00 01 00 00 00 00", "07 00 03 00 00 01 40", "08 00 04 00 00 01 E0"];
+    let rest = ["07 00 04 00 00 01 E0", "07 00 AA 00 07 55 80", "07 00 05 00 00 01 E1", "07 00 02 00 00 00 A0"];
+    let rows: String = [first, rest].concat().iter().map(|row| format!("00 00 00 {row} 00 02 ")).collect();
+    let octets = hex(&format!("00 08 {rows} 00 00 00 00 00 00 00 00 00 02 00 00 00 00 00 00"));
+    let answers: Vec<_> = (0..9).map(|i| capture::answer(&octets, i)).collect();
+    let refusals = [refusal(10), refusal(5).at(1), refusal(16), refusal(24), refusal(13), refusal(21)];
     assert_eq!(answers[..3], [Ok(0), Ok(0), Ok(1)]);
     assert_eq!(answers[3..], refusals.map(Err));
     assert_eq!(capture::answer(&octets[1..], 0), Err(refusal(255)));
@@ -186,7 +187,7 @@ fn p15_distances_from_base_ffff() {
 #[test]
 fn edges_of_d_and_e() {
     let of_d = [(0, 0), (1, 11), (5, 11), (6, 12), (32_767, 12), (32_768, 13), (65_535, 13)];
-    let of_e = [(0, 0), (100, 0), (101, 16), (32_767, 16), (32_768, 13), (65_535, 13)];
+    let of_e = [(0, 0), (100, 0), (101, 0), (32_767, 0), (32_768, 13), (65_535, 13)];
     for b in [0, 1, 0x7FFF, 0x8000, 0xFFFA, 0xFFFF_u16] {
         let by_d = |far| number(judge_d(d(b.wrapping_add(far), b), 5));
         let by_e = |far| number(judge_e(e(b.wrapping_add(6).wrapping_add(far), b, 5)));
@@ -196,14 +197,38 @@ fn edges_of_d_and_e() {
     assert_eq!(judge_d(1, 0), Err(refusal(12)));
 }
 
+/// As 4,294,967,296 = 160 x 26,843,545 + 96, a clock that has gone back by frames is off by 96, and one that has gone
+/// back by 96, 256, .. counts is on again, and far ahead.
 #[test]
-fn lost_frames_count_by_the_poured_bundle() {
-    for e in 0..=101 {
-        let mut session = opened();
-        assert_eq!(offer(&mut session, FIRST), Ok(0));
-        assert_eq!(session.pour(200).map(|octets| octets.len()), Ok(8));
-        let lost = if e > 100 { Err(refusal(16)) } else { Ok(2 * u32::from(e)) };
-        assert_eq!(offer(&mut session, (0x0001 + e, 0, "00 80 80 00")), lost, "e = {e}");
+fn edges_of_the_clock() {
+    let of_frames = [(0, Ok(0)), (1, Ok(1)), (2_999, Ok(2_999)), (3_000, Ok(3_000))];
+    of_frames.iter().for_each(|&(frames, answer)| assert_eq!(lost_in(160 * frames), answer, "{frames} frames"));
+    for frames in [3_001, 65_536, 26_843_545] {
+        assert_eq!(lost_in(160 * frames), Err(refusal(16)), "{frames} frames");
+    }
+    for counts in [1, 80, 159, 161, 479_999, 480_001, 480_159, 480_161, 4_294_967_295] {
+        assert_eq!(lost_in(counts), Err(refusal(24)), "{counts} counts");
+    }
+    for (back, number) in [(1, 24), (95, 24), (96, 16), (97, 24), (160, 24), (256, 16), (320, 24), (480_096, 16)] {
+        assert_eq!(lost_in(counts_between(1_000_640 - back, 1_000_000, 1, 2)), Err(refusal(number)), "back by {back}");
+    }
+}
+
+/// From the end of a group of L 1 and B 2, FFFFFF60 + 640 = 01E0, to one of L 0 and B 3, however many packets are lost.
+#[test]
+fn lost_frames_count_by_the_clock() {
+    for e in [0, 1, 50, 100, 101, 32_767] {
+        for (timestamp, answer) in
+            [(0x01E0, Ok(0)), (0x0280, Ok(1)), (0x0281, Err(24)), (0, Err(24)), (0x0180, Err(16))]
+        {
+            let mut session = opened();
+            assert_eq!(offer(&mut session, FIRST), Ok(0));
+            assert_eq!(session.pour(200).map(|octets| octets.len()), Ok(8));
+            let before = session.clone();
+            let answered = offer(&mut session, (0x0001 + e, timestamp, "00 80 80 00"));
+            assert_eq!(answered, answer.map_err(refusal), "e = {e}, timestamp {timestamp:04X}");
+            assert_eq!(session == before, answer.is_err());
+        }
     }
 }
 
@@ -230,7 +255,9 @@ fn a_holding_tells_its_group_and_packets() {
 /// "The session is then as after pouring", and what is lost between two holdings is what it reports.
 #[test]
 fn a_dropped_group_counts_as_a_poured_one() {
-    for e in (0..=101).chain([32_767, 32_768, 65_535]) {
+    for (e, counts) in
+        [0, 1, 101, 32_767, 32_768].into_iter().flat_map(|e| (0..500).map(move |counts| (e, 32 * counts)))
+    {
         let mut session = opened();
         assert_eq!(session.drop_group(), Err(refusal(21)));
         assert_eq!(offer(&mut session, FIRST), Ok(0));
@@ -238,8 +265,8 @@ fn a_dropped_group_counts_as_a_poured_one() {
         assert_eq!(poured.pour(200).map(|octets| octets.len()), Ok(8));
         assert_eq!((session.drop_group(), session.drop_group()), (Ok(()), Err(refusal(21))));
         assert_eq!(session, poured);
-        let later = (0x0001_u16.wrapping_add(e), 0, "00 80 80 00");
-        assert_eq!(offer(&mut session, later), lost(heard(FIRST), heard(later)), "e = {e}");
+        let later = (0x0001_u16.wrapping_add(e), 0x01E0 + counts, "00 80 80 00");
+        assert_eq!(offer(&mut session, later), lost(heard(FIRST), heard(later)), "e = {e}, {counts} counts");
     }
     assert_eq!((lost(None, heard(FIRST)), lost(heard(FIRST), None)), (Err(refusal(21)), Err(refusal(21))));
 }

@@ -69,8 +69,9 @@ fn holds_packet(s: &[u8]) -> bool {
 /// What stands for nothing is zero.
 fn spare_right(s: &[u8]) -> bool {
     (s[1] == 1 || zeros(&s[2..4]))
-        && (s[8] == 1 || zeros(&s[9..13]))
-        && zeros(&s[13..GROUP])
+        && (s[8] == 1 || zeros(&s[9..20]))
+        && zeros(&s[13..16])
+        && zeros(&s[20..GROUP])
         && zeros(&s[GROUP + 12..HELD])
         && zeros(&s[HELD + 8..MARKS])
         && zeros(&s[END..OCTETS])
@@ -161,19 +162,30 @@ fn same_packet(s: &[u8], read: &Read) -> bool {
     })
 }
 
+/// The frames lost before a new group: by the clock (document 02, (ii)), if one was poured before.
+fn lost_before(s: &[u8], sequence: u16, timestamp: u32) -> Result<usize, u8> {
+    if s[8] == 0 {
+        return Ok(0);
+    }
+    let next = two(s, 9).wrapping_add(s[11] as u16 + 1);
+    if sequence.wrapping_sub(next) >= 32768 {
+        return Err(13);
+    }
+    let end = four(s, 16).wrapping_add(160 * (s[11] as u32 + 1) * s[12] as u32);
+    let counts = timestamp.wrapping_sub(end);
+    if counts % 160 != 0 {
+        return Err(24);
+    }
+    match counts / 160 {
+        3001.. => Err(16),
+        frames => Ok(frames as usize),
+    }
+}
+
 fn place(s: &mut [u8], sequence: u16, timestamp: u32, read: &Read) -> Result<usize, u8> {
     let b = read.types.len() as u8;
     if holds_none(s) {
-        let mut lost = 0;
-        if s[8] == 1 {
-            let next = two(s, 9).wrapping_add(s[11] as u16 + 1);
-            let distance = sequence.wrapping_sub(next);
-            match distance {
-                32768.. => return Err(13),
-                101.. => return Err(16),
-                _ => lost = distance as usize * s[12] as usize,
-            }
-        }
+        let lost = lost_before(s, sequence, timestamp)?;
         s.copy_within(4..8, GROUP);
         put(s, GROUP + 4, &sequence.to_be_bytes());
         put(s, GROUP + 6, &timestamp.to_be_bytes());
@@ -243,6 +255,7 @@ fn pour(s: &mut [u8], out: &mut [u8]) -> Result<usize, u8> {
         }
     }
     s.copy_within(GROUP + 4..GROUP + 6, 9);
+    s.copy_within(GROUP + 6..GROUP + 10, 16);
     s[11] = l as u8;
     s[12] = b as u8;
     s[8] = 1;

@@ -33,11 +33,13 @@ def capture_of(packets):
 
 
 def talk(draw, count):
-    """Packets of one frame each. Some are lost on the way."""
-    packets, sequence = [], draw.randrange(65536)
+    """Packets of one frame each. Some are lost on the way, and before some there is silence."""
+    packets, sequence, time = [], draw.randrange(2**16), draw.randrange(2**32)
     for _ in range(count):
-        packets.append((7, sequence % 65536, 160 * sequence % 2**32, b"\0\1" + draw.randbytes(2)))
-        sequence += draw.choice([1, 1, 1, 3])
+        packets.append((7, sequence % 2**16, time % 2**32, b"\0\1" + draw.randbytes(2)))
+        lost, silence = draw.choice([0, 0, 0, 2]), draw.choice([0, 0, 0, 50])
+        sequence += 1 + lost
+        time += 160 * (1 + lost + silence)
     return packets
 
 
@@ -73,7 +75,8 @@ def random_payload(draw):
 def random_payloads(draw):
     """Captures of random payloads; the same cut, and with an octet more."""
     for number in range(60):
-        capture = capture_of([(7, n, 160 * n, random_payload(draw)) for n in range(draw.randrange(9))])
+        step = draw.choice([160, 1600])  # a frame, or the most frames of a packet
+        capture = capture_of([(7, n, step * n, random_payload(draw)) for n in range(draw.randrange(9))])
         yield Input(f"random payloads {number}", capture)
         yield Input(f"random payloads {number}, cut", capture[:-1])
         yield Input(f"random payloads {number}, with an octet more", capture + b"\0")

@@ -47,13 +47,14 @@ frames in the recording: 12
 erasures among them: 6
 END
 
-# The greatest numbers, a payload of one octet, the edges of the places, and each refusal that has none.
+# The greatest numbers, a payload of one octet, the edges of the places, and each refusal that has none. The group of packet
+# 11 ends at 319 + 320 = 639: 480,799 is 3,001 frames behind that, 640 a count, and 16,639 a hundred frames.
 write_capture edges 'FFFFFFFF 0009 FFFFFFFF 08011111' 'FFFFFFFF FFFF 00000000' 'FFFFFFFF 0009 00000000 01011111' \
     'FFFFFFFF 0009 00000000 00' 'FFFFFFFF 0009 00000000 0001' 'FFFFFFFF 0009 00000000 0080818E03AAAA' \
     'FFFFFFFF 0009 00000000 008E800E00' 'FFFFFFFF 0009 00000000 00FF' \
     'FFFFFFFF 0009 00000000 0080808080808080808080FF' 'FFFFFFFF 000A 0000009F 11012222' \
     'FFFFFFFF 0009 FFFFFFFF 08012222' 'FFFFFFFF 000B 0000013F 08013333' 'FFFFFFFF 0009 FFFFFFFF 08011111' \
-    'FFFFFFFF 0072 00004000 00014444' 'FFFFFFFF 0071 00003F60 00015555'
+    'FFFFFFFF 0072 0007561F 00014444' 'FFFFFFFF 0073 00000280 00014444' 'FFFFFFFF 0071 000040FF 00015555'
 tells edges <<'END'
      0  ffffffff         9  4294967295  1  0   1  taken
      1  ffffffff     65535           0  -  -   -  refused 1: no octet
@@ -68,10 +69,11 @@ tells edges <<'END'
     10  ffffffff         9  4294967295  1  0   1  refused 14: packet differs
     11  ffffffff        11         319  1  0   1  taken
     12  ffffffff         9  4294967295  1  0   1  refused 13: earlier group
-    13  ffffffff       114       16384  0  0   1  refused 16: too far ahead
-    14  ffffffff       113       16224  0  0   1  taken, lost frames before it: 100
+    13  ffffffff       114      480799  0  0   1  refused 16: too far ahead
+    14  ffffffff       115         640  0  0   1  refused 24: off the clock
+    15  ffffffff       113       16639  0  0   1  taken, lost frames before it: 100
 packets taken: 3
-packets refused: 12
+packets refused: 13
   1, no octet: 1
   2, index past length: 1
   4, table cut: 1
@@ -83,8 +85,33 @@ packets refused: 12
   13, earlier group: 1
   14, packet differs: 1
   16, too far ahead: 1
+  24, off the clock: 1
 frames in the recording: 105
 erasures among them: 102
+END
+
+# Silences, and a clock that begins anew.
+tells "$captures/a_talk_with_silences.capture" <<'END'
+     0  00000007         1           0  1  0   2  taken
+     1  00000007         2         160  1  1   2  taken
+     2  00000007         3        8640  1  0   2  taken, lost frames before it: 50
+     3  00000007         6       10880  0  0   1  taken, lost frames before it: 10
+packets taken: 4
+packets refused: 0
+frames in the recording: 69
+erasures among them: 62
+END
+tells "$captures/clock_begun_anew.capture" <<'END'
+     0  00000007         1       80000  0  0   1  taken
+     1  00000007         2           0  0  0   1  refused 24: off the clock
+     2  00000007         3         160  0  0   1  refused 24: off the clock
+     3  00000007         4          64  0  0   1  refused 16: too far ahead
+packets taken: 1
+packets refused: 3
+  16, too far ahead: 1
+  24, off the clock: 2
+frames in the recording: 1
+erasures among them: 0
 END
 tells "$captures/no_packet.capture" <<'END'
 packets taken: 0
@@ -115,4 +142,4 @@ while read -r name number; do
     grep -qF "        $number => say(b\"$text\")," "$root/crates/explain/src/answer.rt" || wrong "$number is not: $text"
     count=$((count + 1))
 done <<<"$names"
-[ "$count" -ge 21 ] || wrong "the header has $count refusals"
+[ "$count" -ge 22 ] || wrong "the header has $count refusals"

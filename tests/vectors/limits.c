@@ -10,6 +10,7 @@
 
 enum { MAX_L = LV_GREATEST_L, MAX_B = LV_GREATEST_B, PAYLOAD = 1 + MAX_B + MAX_B * LV_BODY_MAX };
 enum { HEAD = 12, GUARD = 0xA5 };
+enum { FRAME = 160, GROUP = FRAME * (MAX_L + 1) * MAX_B }; /* counts of the clock: of a frame, of the greatest group */
 
 static int failed;
 static uint8_t session[LV_SESSION_OCTETS + 1], holding[LV_HOLDING_OCTETS + 1], joined[LV_HOLDING_OCTETS];
@@ -36,11 +37,11 @@ static void longest_payload(int n)
     payload[MAX_B] = LV_RATE_1;
 }
 
-/* Offers that payload to the session, from source 7. */
-static uint8_t offer(int n, unsigned sequence, size_t *lost)
+/* Offers that payload to the session, from source 7, as of a group with this base timestamp. */
+static uint8_t offer(int n, unsigned sequence, long base, size_t *lost)
 {
     longest_payload(n);
-    return lv_session_offer(session, LV_SESSION_OCTETS, 7, (uint16_t)sequence, 160u * (uint32_t)n, payload,
+    return lv_session_offer(session, LV_SESSION_OCTETS, 7, (uint16_t)sequence, (uint32_t)(base + FRAME * n), payload,
                             sizeof payload, lost, &place);
 }
 
@@ -79,7 +80,7 @@ static void try_group(void)
     int n;
 
     for (n = 0; n <= MAX_L; n++)
-        holds(offer(n, (unsigned)n, &lost) == LV_OK && lost == 0, "the greatest group is heard");
+        holds(offer(n, (unsigned)n, 0, &lost) == LV_OK && lost == 0, "the greatest group is heard");
     memset(holding, GUARD, sizeof holding);
     holds(lv_session_copy(session, LV_SESSION_OCTETS, holding, LV_HOLDING_OCTETS - 1) == LV_NO_ROOM &&
               lv_session_copy(session, LV_SESSION_OCTETS, holding, sizeof holding) == LV_OK &&
@@ -124,19 +125,32 @@ static void try_drop(void)
     holds(lv_session_drop(dropped, LV_SESSION_OCTETS) == LV_NOT_APPLICABLE, "a group is dropped once");
 }
 
-/* LV_LOST_MAX: behind that group, 101 packets missing are too many, and 100 are the most frames lost. */
+/* Offers a packet so many counts of the clock behind that group's end, by its sequence number the next one. */
+static uint8_t offer_behind(long counts, size_t *lost)
+{
+    return offer(0, MAX_L + 1, GROUP + counts, lost);
+}
+
+/* LV_LOST_MAX: behind that group, one frame more is too many, and what is no whole number of frames is refused before
+ * that. */
 static void try_lost(void)
 {
     size_t lost = 0;
 
-    holds(offer(0, MAX_L + 1 + 101, &lost) == LV_TOO_FAR_AHEAD, "101 packets are too many");
-    holds(offer(0, MAX_L + 1 + 100, &lost) == LV_OK && lost == LV_LOST_MAX, "at most LV_LOST_MAX frames are lost");
+    holds(offer_behind(1, &lost) == LV_OFF_THE_CLOCK && offer_behind(FRAME - 1, &lost) == LV_OFF_THE_CLOCK &&
+              offer_behind(-FRAME, &lost) == LV_OFF_THE_CLOCK,
+          "only whole frames are lost");
+    holds(offer_behind(FRAME * (LV_LOST_MAX + 1L), &lost) == LV_TOO_FAR_AHEAD, "LV_LOST_MAX and a frame are too many");
+    holds(offer_behind(FRAME * (LV_LOST_MAX + 1L) + 1, &lost) == LV_OFF_THE_CLOCK, "24 comes before 16");
+    holds(offer(0, MAX_L, GROUP + 1, &lost) == LV_EARLIER_GROUP, "13 comes before 24");
+    holds(offer_behind(FRAME * (long)LV_LOST_MAX, &lost) == LV_OK && lost == LV_LOST_MAX,
+          "at most LV_LOST_MAX frames are lost");
 }
 
-/* The lost frames between that group's holding and another one's, so many packets behind it, in so many octets. */
-static uint8_t lost_between(unsigned packets, size_t len, size_t *lost)
+/* The lost frames between that group's holding and another one's, so many counts behind it, in so many octets. */
+static uint8_t lost_between(long counts, size_t len, size_t *lost)
 {
-    holds(open_session(MAX_L, MAX_B, LV_SESSION_OCTETS) == LV_OK && offer(0, MAX_L + 1 + packets, lost) == LV_OK &&
+    holds(open_session(MAX_L, MAX_B, LV_SESSION_OCTETS) == LV_OK && offer_behind(counts, lost) == LV_OK &&
               lv_session_copy(session, LV_SESSION_OCTETS, later, sizeof later) == LV_OK,
           "a group is held");
     return lv_holding_lost(holding, LV_HOLDING_OCTETS, later, len, lost);
@@ -145,11 +159,15 @@ static uint8_t lost_between(unsigned packets, size_t len, size_t *lost)
 /* LV_LOST_MAX and LV_HOLDING_OCTETS: the same between two holdings. */
 static void try_lost_between(void)
 {
+    const long most = FRAME * (long)LV_LOST_MAX;
     size_t lost = 0;
 
-    holds(lost_between(101, sizeof later, &lost) == LV_TOO_FAR_AHEAD, "101 packets are too many between holdings");
-    holds(lost_between(100, sizeof later - 1, &lost) == LV_NOT_APPLICABLE, "fewer octets are no later holding");
-    holds(lost_between(100, sizeof later, &lost) == LV_OK && lost == LV_LOST_MAX,
+    holds(lost_between(most + 1, sizeof later, &lost) == LV_OFF_THE_CLOCK,
+          "only whole frames are lost between holdings");
+    holds(lost_between(most + FRAME, sizeof later, &lost) == LV_TOO_FAR_AHEAD,
+          "LV_LOST_MAX and a frame are too many between holdings");
+    holds(lost_between(most, sizeof later - 1, &lost) == LV_NOT_APPLICABLE, "fewer octets are no later holding");
+    holds(lost_between(most, sizeof later, &lost) == LV_OK && lost == LV_LOST_MAX,
           "at most LV_LOST_MAX frames are lost between holdings");
     holds(lv_holding_lost(later, sizeof later, holding, LV_HOLDING_OCTETS, &lost) == LV_EARLIER_GROUP,
           "the earlier holding is not later");
@@ -219,6 +237,13 @@ static void put_two(size_t at, size_t number)
     capture[at + 1] = (uint8_t)(number % 256);
 }
 
+/* The same in four. */
+static void put_four(size_t at, size_t number)
+{
+    put_two(at, number / 65536);
+    put_two(at + 2, number % 65536);
+}
+
 /* LV_CAPTURE_MAX and LV_CAPTURE_PACKETS_MAX: one packet that fills a capture, and as many packets as there can be. */
 static void try_capture(void)
 {
@@ -243,8 +268,8 @@ static void try_capture(void)
     }
 }
 
-/* LV_RECORDING_MAX, and LV_LOST_MAX again: every packet begins a group of the greatest L and B, 100 packets behind the
- * one before it. */
+/* LV_RECORDING_MAX, and LV_LOST_MAX again: every packet begins a group of the greatest L and B, LV_LOST_MAX frames
+ * behind the end of the one before it. */
 static void try_recording(void)
 {
     size_t table = 2 + HEAD * LV_CAPTURE_PACKETS_MAX, len = table + PAYLOAD * LV_CAPTURE_PACKETS_MAX;
@@ -254,7 +279,8 @@ static void try_recording(void)
     put_two(0, LV_CAPTURE_PACKETS_MAX);
     longest_payload(0);
     for (i = 0; i < LV_CAPTURE_PACKETS_MAX; i++) {
-        put_two(2 + HEAD * i + 4, (MAX_L + 1 + 100) * i % 65536);
+        put_two(2 + HEAD * i + 4, (MAX_L + 1) * i);
+        put_four(2 + HEAD * i + 6, (GROUP + FRAME * (size_t)LV_LOST_MAX) * i);
         put_two(2 + HEAD * i + 10, PAYLOAD);
         memcpy(capture + table + PAYLOAD * i, payload, PAYLOAD);
     }

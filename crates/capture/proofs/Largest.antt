@@ -1,8 +1,8 @@
 -- No recording of a capture is larger than `largest`: what a run has recorded, and what its held group would pour, is at most 300 octets for each
 -- packet offered, and 3,000 lost frames more for each once a group was poured. Assumes nothing.
 use Prim.Native.Nat.{ℕ, zero, suc, _+_, _*_, _≤_, _<_}
-use mathlib.Core.Bool.{Bool, true, false, cond, _&&_}
-use mathlib.Core.Path.{_≡_, refl, sym, ap, ap₂, _∙_}
+use mathlib.Core.Bool.{Bool, true, false, cond}
+use mathlib.Core.Path.{_≡_, refl, ap, ap₂, _∙_}
 use mathlib.Core.List.{List, [], _∷_, _++_, append-nil}
 use mathlib.Core.Logic.{⊎-elim}
 use native.Mathlib.Nat.{add-zero, zero-add, le-refl, mul-le-mul, suc-mul, eq-or-lt-of-le, le-of-suc-le-suc}
@@ -16,6 +16,7 @@ use Rattle.octets.proofs.Logic.{apart, both-true}
 use Rattle.octets.proofs.OctetsLaws.{same-true}
 use Rattle.frame.specs.FrameTable.{FrameTable, Frame, size, within, erases, erasure}
 use Rattle.frame.specs.Shape.{holdingShape, voiceWith}
+use Rattle.numbers.specs.Place.{minute}
 use Rattle.numbers.specs.declared.GroupNumbers.{GroupNumbers}
 use Rattle.frame.proofs.FrameTableLaws.{size-within, erasure-listed}
 use Rattle.answers.specs.Outputs.{Made}
@@ -159,7 +160,7 @@ abbrev weight : Session → ℕ
 weight s = cond (isNothing holdingShape (s .group)) 0 (80 + 220 * heldBelow (s .group) 8)
 
 abbrev before : Session → ℕ
-before s = cond (s .poured) 3000 0
+before s = cond (s .poured) minute 0
 
 weight-most : (s : Session) → weight s ≤ 80 + 220 * heldBelow (s .group) 8
 weight-most s = go (isNothing holdingShape (s .group))
@@ -172,7 +173,7 @@ weight-most s = go (isNothing holdingShape (s .group))
 data Brings (s : Session) (o : Offered) : Type 0 where
   nothing-new : (r : Refusal) → o ≡ refuse s r → Brings s o
   more : (t : Session) (lost : ℕ) → o ≡ accept t lost → t .poured ≡ s .poured → t .source ≡ s .source →
-      lost ≤ 3000 → lost + weight t ≤ weight s + 300 + before s → Brings s o
+      lost ≤ minute → lost + weight t ≤ weight s + 300 + before s → Brings s o
 
 -- a group that a packet begins
 begun-weight : (s : Session) (a : Arrival) →
@@ -194,7 +195,7 @@ placed-brings s a o (put q f i e) =
     (omega (arith, weight-most (withGroup s (withPacket holdingShape g (a .n) (a .packet))), with-small g (a .n) (a .packet) 8, held))
 placed-brings s a o (first q p e) = more _ 0 e refl refl (omega arith) (omega (arith, begun-weight s a))
 placed-brings s a o (next q p lost f h e) =
-    let b : before s ≡ 3000 = simp p in
+    let b : before s ≡ minute = simp p in
     more _ lost e refl refl h (omega (arith, begun-weight s a, h, b))
 
 offer-brings : (v : FrameTable) (s : Session) (h : Heard) → Brings s (offeredTo v s h)
@@ -207,11 +208,11 @@ offer-brings v s h = go (offered (voiceWith v) s (h .source) (h .sequence) (h .t
         placed-brings s (arrival holdingShape (h .sequence) (h .timestamp) l n fs) o x
 
 -- so the lost frames of an answer are few
-pub lost-few : (v : FrameTable) (s : Session) (h : Heard) → lostIn (offeredTo v s h .answer) ≤ 3000
+pub lost-few : (v : FrameTable) (s : Session) (h : Heard) → lostIn (offeredTo v s h .answer) ≤ minute
 unfolding lostIn refuse accept
 lost-few v s h = go (offeredTo v s h) (offer-brings v s h)
   where
-    go : (o : Offered) → Brings s o → lostIn (o .answer) ≤ 3000
+    go : (o : Offered) → Brings s o → lostIn (o .answer) ≤ minute
     go o (nothing-new r e) = let q : lostIn (o .answer) ≡ 0 = ap (λ (x : Offered). lostIn (x .answer)) e in omega arith
     go o (more t lost e p f l w) = let q : lostIn (o .answer) ≡ lost = ap (λ (x : Offered). lostIn (x .answer)) e in omega arith
 
@@ -257,7 +258,7 @@ data Pours (s : Session) (a : Step) : Type 0 where
 
 -- ---- a run of i packets that has recorded len octets
 abbrev cap : Bool → ℕ → ℕ
-cap poured i = cond poured (3300 * i) (300 * i)
+cap poured i = cond poured ((300 + minute) * i) (300 * i)
 
 abbrev Small : Session → ℕ → ℕ → Type 0
 Small s len i = len + weight s + before s ≤ cap (s .poured) i
@@ -268,9 +269,9 @@ then-small s len i a h b = go (s .poured) (a .session .poured) (b .same) h (b .s
     go :
         (p q : Bool) →
         q ≡ p →
-        len + weight s + cond p 3000 0 ≤ cap p i →
-        length (a .octets) + weight (a .session) ≤ weight s + 300 + cond p 3000 0 →
-        len + length (a .octets) + weight (a .session) + cond q 3000 0 ≤ cap q (i + 1)
+        len + weight s + cond p minute 0 ≤ cap p i →
+        length (a .octets) + weight (a .session) ≤ weight s + 300 + cond p minute 0 →
+        len + length (a .octets) + weight (a .session) + cond q minute 0 ≤ cap q (i + 1)
     go true true e x y = omega arith
     go false false e x y = omega arith
     go true false e x y = apart (cc)
@@ -322,7 +323,7 @@ module _ (v : FrameTable) (w : T (within 22 v)) (z : T (erases v)) where
   unfolding ended
   pour-keeps s len i h = go (pouring v s) (pour-ends s)
     where
-      first : (p : Bool) → len + weight s + cond p 3000 0 ≤ cap p i → 80 ≤ weight s → len + weight s + 3000 ≤ 3300 * i
+      first : (p : Bool) → len + weight s + cond p minute 0 ≤ cap p i → 80 ≤ weight s → len + weight s + minute ≤ (300 + minute) * i
       first true x y = x
       first false x y = omega arith
 
@@ -373,10 +374,10 @@ module _ (kind : Kind) (w : T (within 22 (kind .table))) (z : T (erases (kind .t
   first-small [] = simp (nothing-is holdingShape) (omega arith)
   first-small (h ∷ hs) = simp (nothing-is holdingShape) (omega arith)
 
-  few-octets : (s : Session) (len n : ℕ) → n ≤ 256 → Small s len n → len ≤ 256 * 300 + 255 * 3000
+  few-octets : (s : Session) (len n : ℕ) → n ≤ 256 → Small s len n → len ≤ 256 * 300 + 255 * minute
   few-octets s len n h x = go (s .poured) x
     where
-      go : (p : Bool) → len + weight s + cond p 3000 0 ≤ cap p n → len ≤ 256 * 300 + 255 * 3000
+      go : (p : Bool) → len + weight s + cond p minute 0 ≤ cap p n → len ≤ 256 * 300 + 255 * minute
       go true x = omega arith
       go false x = omega arith
 
@@ -385,10 +386,10 @@ module _ (kind : Kind) (w : T (within 22 (kind .table))) (z : T (erases (kind .t
     from-first : Small (runOf kind (firstSession hs) ks .session) (length (runOf kind (firstSession hs) ks .octets)) (length ks)
     from-first = rw (← zero-add (length (runOf kind (firstSession hs) ks .octets)), ← zero-add (length ks)) (run-small (firstSession hs) ks 0 0 (first-small hs))
 
-    pub run-few : length (runOf kind (firstSession hs) ks .octets) ≤ 256 * 300 + 255 * 3000
+    pub run-few : length (runOf kind (firstSession hs) ks .octets) ≤ 256 * 300 + 255 * minute
     run-few = few-octets (runOf kind (firstSession hs) ks .session) _ (length ks) few from-first
 
-    pub all-few : length (andThen (runOf kind (firstSession hs) ks) (pouring (kind .table)) .octets) ≤ 256 * 300 + 255 * 3000
+    pub all-few : length (andThen (runOf kind (firstSession hs) ks) (pouring (kind .table)) .octets) ≤ 256 * 300 + 255 * minute
     unfolding andThen
     all-few =
         let a = runOf kind (firstSession hs) ks in

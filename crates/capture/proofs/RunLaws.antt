@@ -24,6 +24,7 @@ use Rattle.answers.specs.declared.Written.the-variants as written
 use Rattle.entries.specs.Kind.{Kind}
 use Rattle.entries.specs.Entries.{entries}
 use Rattle.recording.specs.Recording.{recordingMade}
+use Rattle.numbers.specs.Place.{minute}
 use Rattle.session.specs.Session.{neverOpened, fresh, formRight, openedFor, offered, pourMade, ended, afterPour}
 use Rattle.session.specs.declared.Session.{Session}
 use Rattle.session.specs.declared.Offered.{Offered}
@@ -203,7 +204,7 @@ unfolding stepOf
 step-does kind s h at d e e′ p r o x y z =
     does-then (readied kind s h) _ (λ t. offering kind t h) at d e e′ p r x (offering-is kind (p .session) h o y ∙ ap (λ (t : Session). offering kind t h) (x .session)) z
 
-pub lost-fit : (v : FrameTable) (s : Session) (h : Heard) (o : Offered) → o ≡ offeredTo v s h → lostIn (o .answer) ≤ 3000
+pub lost-fit : (v : FrameTable) (s : Session) (h : Heard) (o : Offered) → o ≡ offeredTo v s h → lostIn (o .answer) ≤ minute
 lost-fit v s h o e = rw e (lost-few v s h)
 
 -- ---- pouring, into room for any group

@@ -16,6 +16,7 @@ use Rattle.form.specs.declared.Form.{Form}
 use Rattle.form.specs.declared.Form.the-variants.{Interleaved}
 use Rattle.form.specs.Agreed.{vocoderOf}
 use Rattle.entries.specs.Kind.{Kind, kindOf}
+use Rattle.numbers.specs.Place.{minute}
 use Rattle.session.specs.Session.{neverOpened, fresh, offered, pourMade, ended}
 use Rattle.session.specs.declared.Session.{Session}
 use Rattle.session.specs.declared.Offered.{Offered}
@@ -130,9 +131,9 @@ unfoldable pub captureRecording : Kind → List ℕ → List ℕ
 captureRecording kind c = kind .opening ++ entriesRecorded kind (packetsIn c)
 
 -- the most octets that a recording can have: the opening, 300 for each of 256 packets that begins a group of its own, with ten frames of
--- 22 octets at 80 places, and 3,000 lost frames (02, ii) before each but the first
+-- 22 octets at 80 places, and a minute of lost frames (02, ii) before each but the first
 abbrev pub largest : ℕ
-largest = 7 + 256 * 300 + 255 * 3000
+largest = 7 + 256 * 300 + 255 * minute
 
 -- ---- what the calls promise
 

@@ -13,6 +13,7 @@ ghost use Prim.Native.Nat.{_+_, _*_, _<_, _≤_};
 ghost use lib.ListN.{length, replicate};
 ghost use lib.Dec.{leb};
 ghost use Rattle.frame.specs.Places.{upTo};
+ghost use Rattle.numbers.specs.Place.{minute};
 ghost use Rattle.capture.specs.Capture.{countOf, lengthAt, lengths, startAt, heardAt, packetsIn, endFault, faultOf, good};
 ghost use Rattle.capture.specs.Run.{captureKind, firstSession, offeredTo, lostIn, largest, takenOf, isTwelve, pouring, readied, stepOf, runOf};
 ghost use Rattle.capture.specs.Run.{captureRecording, Put, Does, recordAnswer, recordOutput, packetAnswered, answerOf};
@@ -198,7 +199,7 @@ fn pour_group(run: Run, out: &mut [u8]) -> Run
 
 // The run after an offer: lost frames are recorded as erasures, and a refusal leaves it as it was.
 fn take(run: Run, offered: Offered, out: &mut [u8]) -> Run
-    requires { ⌜ (run .octets ≤ 2 * largest) × (lostIn (offered .answer) ≤ 3000) ⌝ }
+    requires { ⌜ (run .octets ≤ 2 * largest) × (lostIn (offered .answer) ≤ minute) ⌝ }
     ensures { λ r. ⌜ Does (takenOf captureKind (run .session) (offered .session) (offered .answer)) (run .octets) (now (out .entry)) r (now (out .exit)) ⌝ }
 {
     let at = run.octets;

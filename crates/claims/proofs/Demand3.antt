@@ -13,6 +13,7 @@ use Rattle.frame.specs.Shape.{Voice}
 use Rattle.packet.specs.Writing.{packetMade, headerFreeMade}
 use Rattle.pouring.specs.Pouring.{inTime}
 use Rattle.numbers.specs.declared.GroupNumbers.{GroupNumbers}
+use Rattle.numbers.proofs.PlaceLaws.{same-numbers}
 use Rattle.session.specs.Session.{withGroup, offered}
 use Rattle.session.specs.declared.Session.{Session}
 use Rattle.session.specs.declared.Offered.{Offered}
@@ -93,15 +94,12 @@ module _ (writers : Writers) where
       record {
         group = so .group;
         its-source = so .its-source;
-        its-numbers = so .its-numbers ∙ numbers-as l b;
+        its-numbers = so .its-numbers ∙ same-numbers refl refl (sym l) (sym b);
         its-frames = so .its-frames ∙ e;
         sent = so .sent;
         same-group = so .same-group;
         its-payload = λ form i n. so .its-payload form i n ∙ sym (p n);
       }
-    where
-      numbers-as : {q t m c : ℕ} → m ≡ 0 → c ≡ 1 → _≡_ {A = GroupNumbers} (record { sequence = q; timestamp = t; l = 0; b = 1 }) (record { sequence = q; timestamp = t; l = m; b = c })
-      numbers-as i j = cc
 
   -- none of its frames is an erasure
   none-by : (g : GroupNumbers) (fs : List Frame) (payload : ℕ → List ℕ) → ByWriter writers g fs payload → NoErasure fs

@@ -17,7 +17,7 @@ use Rattle.packet.specs.Packet.{placeOf, packetFrames}
 use Rattle.packet.proofs.Packing.{length-packet, packet-at, packet-every}
 use Rattle.numbers.specs.Bases.{minus, baseSequence, baseTimestamp}
 use Rattle.numbers.specs.Place.{differ, atDistance, withHeld, decided}
-use Rattle.numbers.specs.declared.GroupNumbers.{GroupNumbers}
+use Rattle.numbers.proofs.PlaceLaws.{same-numbers}
 use Rattle.holding.specs.Group.{isNothing, begun, numbersOf, heldAt, bundleAt, withPacket}
 use Rattle.bundle.specs.Bundles.{sameBundles}
 use Rattle.bundle.specs.LaidOut.{laid}
@@ -133,11 +133,7 @@ module _ (v : Voice) (m : HasRoom v) (form : Form) (g : Sent v form) (n : ℕ) (
   -- the numbers that it arrives with are those of its group
   pub arrives-with : arrival (v .shape) (numbered (sentNumbers (g .group)) n) (stamped (sentNumbers (g .group)) n) (g .group .l) n ours .numbers ≡ sentNumbers (g .group)
   unfolding arrival
-  arrives-with = same base-is time-is ours-many
-    where
-      same : {q q′ t t′ l b b′ : ℕ} → q ≡ q′ → t ≡ t′ → b ≡ b′
-          → _≡_ {A = GroupNumbers} (record { sequence = q; timestamp = t; l = l; b = b }) (record { sequence = q′; timestamp = t′; l = l; b = b′ })
-      same i j k = cc
+  arrives-with = same-numbers base-is time-is refl ours-many
 
   -- packet n put into a holding with the group's numbers that knows these packets
   put-part : (h : Holding) → Keeps v h → OfGroup h (g .group) → (ds : List ℕ) → ((i : ℕ) → i < packetsOf (v .shape) → knownOf v h i ≡ knowledge (g .group) ds i)
@@ -292,7 +288,7 @@ module _ (v : Voice) (m : HasRoom v) (form : Form) (g : Sent v form) (n : ℕ) (
   unfolding begins arrival
   begins-so k = rw (y .for-source, base-is v m form g n le, time-is v m form g n le, ours-many v m form g n le)
 
-  reported-is : y .reported ≡ lostBefore (v .shape) s (sentNumbers (g .group))
+  pub reported-is : y .reported ≡ lostBefore (v .shape) s (sentNumbers (g .group))
   unfolding LostFramesByFormula accept
   reported-is =
       let told : offerOne s g n .answer ≡ Accepted (y .reported) = ap (λ (z : Offered). z .answer) (begun-first ∙ begins-so (y .reported)) in

@@ -1,6 +1,6 @@
 -- What is lost before a group goes by the clock, and a recording is as long as the clock says. Assumes nothing.
-use Prim.Native.Nat.{ℕ, _+_, _-_, _*_, _<_}
-use mathlib.Core.Path.{_≡_, refl, sym, ap, _∙_}
+use Prim.Native.Nat.{ℕ, _+_, _-_, _*_}
+use mathlib.Core.Path.{_≡_, sym, ap, _∙_}
 use mathlib.Core.List.{List, [], _∷_, _++_}
 use native.Mathlib.Omega.{arith}
 use lib.Dec.{T}
@@ -11,9 +11,9 @@ use Rattle.frame.proofs.PlacesLaws.{every-append}
 use Rattle.entries.specs.Kind.{Kind, listsErasure}
 use Rattle.form.specs.Agreed.{voiceFor}
 use Rattle.numbers.specs.Bases.{minus}
-use Rattle.numbers.specs.Place.{gap, groupEnd, pause, afterPause, afterPoured}
+use Rattle.numbers.specs.Place.{groupEnd, afterPause}
 use Rattle.numbers.specs.declared.GroupNumbers.{GroupNumbers}
-use Rattle.numbers.proofs.PlaceLaws.{by-clock}
+use Rattle.numbers.proofs.PlaceLaws.{clock-decided, frames-lost}
 use Rattle.capture.specs.Run.{captureVocoder, captureKind, captureForm}
 use Rattle.claims.specs.Demand3.{Writers, WrittenGroup}
 use Rattle.claims.specs.Packets.{KindsPass}
@@ -23,12 +23,9 @@ use Rattle.claims.proofs.CapturesRead.{silent, silent-listed, reads-ent
 use Rattle.claims.proofs.Demand3.{sent-so, t-source, t-numbers, t-frames}
 use Rattle.claims.proofs.Joinings.{voices-have-room}
 use Rattle.claims.proofs.PacketsBack.{kinds-pass}
-use Rattle.claims.proofs.Talk.{frames-lost, talk-is-recorded}
+use Rattle.claims.proofs.Talk.{talk-is-recorded}
 
 -- ---- after a poured group
-clock-decided : (poured new : GroupNumbers) → gap poured new < 32768 → afterPause (pause poured new) ≡ afterPoured poured new
-clock-decided poured new h = by-clock poured new (gap poured new) refl h (pause poured new) (afterPause (pause poured new)) refl refl
-
 pub clock-decides : ClockDecides
 clock-decides = record {
   alone = λ poured new other h k e.

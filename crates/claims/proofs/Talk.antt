@@ -1,8 +1,8 @@
 -- A talk with silences, heard whole in order: its recording is the talk. Assumes nothing.
-use Prim.Native.Nat.{ℕ, zero, suc, _+_, _-_, _*_, _/_, _%_, _≤_, _<_}
-use mathlib.Core.Path.{_≡_, refl, sym, ap, ap₂, subst, _∙_}
-use mathlib.Core.List.{List, [], _∷_, _++_, map, append-nil, append-assoc}
-use mathlib.Core.Bool.{Bool, true, false, cond, _||_, _&&_}
+use Prim.Native.Nat.{ℕ, zero, suc, _+_, _-_, _*_, _%_, _≤_, _<_}
+use mathlib.Core.Path.{_≡_, refl, sym, ap, ap₂, _∙_}
+use mathlib.Core.List.{List, [], _∷_, _++_, map, map-append, append-nil, append-assoc}
+use mathlib.Core.Bool.{or-true, Bool, true, false, _||_}
 use mathlib.Core.Logic.{⊎-elim}
 use native.Mathlib.Nat.{eq-or-lt-of-le, mod-add-mod}
 use native.Mathlib.Numerals.{add-one}
@@ -26,9 +26,9 @@ use Rattle.numbers.specs.Place.{distance, gap, pause, withHeld, afterPoured}
 use Rattle.numbers.specs.declared.GroupNumbers.{GroupNumbers}
 use Rattle.numbers.specs.declared.Before.the-variants as before
 use Rattle.numbers.specs.declared.Verdict.the-variants as verdict
-use Rattle.numbers.proofs.PlaceLaws.{by-clock, whole-frames}
+use Rattle.numbers.proofs.PlaceLaws.{same-numbers}
 use Rattle.numbers.proofs.PlaceLaws as numbers
-use Rattle.holding.specs.Group.{numbersOf, isNothing}
+use Rattle.holding.specs.Group.{numbersOf}
 use Rattle.holding.proofs.GroupLaws.{nothing-is}
 use Rattle.pouring.specs.Pouring.{inTime}
 use Rattle.pouring.proofs.PouringLaws.{entries-append}
@@ -46,7 +46,7 @@ use Rattle.claims.specs.Offering.{Sent, sentNumbers, numbered, stamped, 
 use Rattle.claims.specs.Offering.{OffersDeliver}
 use Rattle.claims.specs.Captures.{heardOf}
 use Rattle.claims.specs.Pauses.{Spoken, spokenPacket, heardWhole, Later, Follows, InTurn, spokenFrom, Each, SentAs, TalkIsRecorded}
-use Rattle.claims.proofs.Offering.{offers-deliver, offer-read, arrives-with, some-held, places-of, pours}
+use Rattle.claims.proofs.Offering.{offers-deliver, offer-read, arrives-with, reported-is, some-held, places-of, pours}
 use Rattle.claims.proofs.Missing.{each-place}
 use Rattle.claims.proofs.TwoBoxes.{ended-open}
 use Rattle.claims.proofs.Captures.{Leaves, group-after, accepted-as, fresh-taken}
@@ -68,26 +68,14 @@ silence-is f k s t x y p q r h =
     let b : y ≡ (e + 160 * k) % 4294967296 = q ∙ ap (λ (i : ℕ). i % 4294967296) r in
     ap (λ (i : ℕ). (y + (4294967296 - i)) % 4294967296) a ∙ ap (λ (i : ℕ). minus 32 i e) b ∙ from-end e k h
 
--- so many frames are lost
-pub frames-lost : (poured new : GroupNumbers) → gap poured new < 32768 → (k : ℕ) → k ≤ 3000 → pause poured new ≡ 160 * k → verdict.Begins k ≡ afterPoured poured new
-frames-lost poured new h k few e =
-    let p = pause poured new in
-    let q : k ≡ p / 160 = omega arith in
-    let w = whole-frames p (omega arith) (omega arith) in
-    ap verdict.Begins q ∙ by-clock poured new (gap poured new) refl h p (verdict.Begins (p / 160)) refl w
-
 -- ---- all packets of a group, in order
 abbrev allOf : ℕ → List ℕ
 allOf l = 0 ∷ upTo suc l
 
-append-map : {A B : Type 0} (f : A → B) (xs ys : List A) → map f (xs ++ ys) ≡ map f xs ++ map f ys
-append-map f [] ys = refl
-append-map {B = B} f (x ∷ xs) ys = ap (λ (l : List B). f x ∷ l) (append-map f xs ys)
-
 map-upTo : {A B : Type 0} (f : A → B) (g : ℕ → A) (n : ℕ) → map f (upTo g n) ≡ upTo (λ i. f (g i)) n
 unfolding upTo
 map-upTo f g zero = refl
-map-upTo {B = B} f g (suc n) = append-map f (upTo g n) (g n ∷ []) ∙ ap (λ (l : List B). l ++ (f (g n) ∷ [])) (map-upTo f g n)
+map-upTo {B = B} f g (suc n) = map-append f (upTo g n) (g n ∷ []) ∙ ap (λ (l : List B). l ++ (f (g n) ∷ [])) (map-upTo f g n)
 
 -- what a box heard of all of them
 in-order : {A : Type 0} (f : ℕ → A) (l : ℕ) → upTo f (l + 1) ≡ map f (allOf l)
@@ -109,10 +97,6 @@ within-upTo l (suc n) h = within-append l (upTo suc n) (suc n) (within-upTo l n 
 
 all-within : (l : ℕ) → Within l (allOf l)
 all-within l = (omega arith, within-upTo l l (omega arith))
-
-or-true : (a : Bool) → a || true ≡ true
-or-true true = refl
-or-true false = refl
 
 among-append : (n : ℕ) (ns ms : List ℕ) → among n (ns ++ ms) ≡ among n ns || among n ms
 among-append n [] ms = refl
@@ -159,11 +143,7 @@ module _ (kind : Kind) (r : HasRoom (voiceWith (kind .table))) where
 
     held-numbers : numbersOf (s .group) ≡ sentNumbers (g .group)
     unfolding numbersOf
-    held-numbers = let o = x .part .of-group in same (o .base) (o .time) (o .same-length) (o .same-bundle)
-      where
-        same : {q q′ t t′ l l′ b b′ : ℕ} → q ≡ q′ → t ≡ t′ → l ≡ l′ → b ≡ b′
-            → _≡_ {A = GroupNumbers} (record { sequence = q; timestamp = t; l = l; b = b }) (record { sequence = q′; timestamp = t′; l = l′; b = b′ })
-        same i j k l = cc
+    held-numbers = let o = x .part .of-group in same-numbers (o .base) (o .time) (o .same-length) (o .same-bundle)
 
     -- ---- a group that follows it
     module _ (n : Sent v captureForm) (same-source : n .group .source ≡ g .group .source)
@@ -209,7 +189,7 @@ module _ (kind : Kind) (r : HasRoom (voiceWith (kind .table))) where
             reported = k;
             would-begin =
                 sym
-                (frames-lost (sentNumbers (g .group)) new (later-gap (sentNumbers (g .group)) new later) k few silence
+                (numbers.frames-lost (sentNumbers (g .group)) new (later-gap (sentNumbers (g .group)) new later) k few silence
                 ∙ ap (λ (h : GroupNumbers). afterPoured h new) (sym last-is)
                 ∙ numbers.one-poured (groupBefore holdingShape (ended holdingShape s)) new (lastNumbers (ended holdingShape s))
                 (sym (one-poured holdingShape (ended holdingShape s) (lastNumbers (ended holdingShape s)) (nothing-is holdingShape) refl refl)));
@@ -217,12 +197,8 @@ module _ (kind : Kind) (r : HasRoom (voiceWith (kind .table))) where
 
       -- and the frames of the silence are lost
       lost-is : lostBefore holdingShape (ended holdingShape s) new ≡ k
-      unfolding ended
-      lost-is =
-          let e : pause (lastNumbers (ended holdingShape s)) new ≡ 160 * k = ap (λ (h : GroupNumbers). pause h new) last-is ∙ silence in
-          let q : pause (lastNumbers (ended holdingShape s)) new / 160 ≡ k = omega arith in
-          let z : (isNothing holdingShape (ended holdingShape s .group) && true) ≡ true = simp (nothing-is holdingShape) in
-          ap (λ (b : Bool). cond b (pause (lastNumbers (ended holdingShape s)) new / 160) 0) z ∙ q
+      unfolding ended is-ready
+      lost-is = sym (reported-is v r captureForm n 0 (omega arith) (ended holdingShape s) is-ready)
 
       -- its packets, one after the other
       follows : Leaves (offerAll (ended holdingShape s) n (allOf (n .group .l))) (entriesOf (g .group .frames) ++ replicate k (kind .erasure))

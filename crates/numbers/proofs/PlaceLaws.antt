@@ -11,12 +11,17 @@ use borrow.Author.Tests.{eq-eqb, ne-eqb, eqb-true, le-leb, lt-leb, lt-ltb, le-lt
 use Rattle.answers.specs.Answers.{numberOf}
 use Rattle.answers.specs.declared.Refusal.{Refusal}
 use Rattle.answers.specs.declared.Refusal.the-variants.{ContradictsGroup, LaterGroup, EarlierGroup, TooFarAhead, OffTheClock}
-use Rattle.numbers.specs.Place.{differ, atDistance, distance, withHeld, gap, pause, afterPause, afterPoured, decided}
+use Rattle.numbers.specs.Place.{differ, atDistance, distance, withHeld, gap, pause, minute, afterPause, afterPoured, decided}
 use Rattle.numbers.specs.declared.GroupNumbers.{GroupNumbers}
 use Rattle.numbers.specs.declared.Before.{Before}
 use Rattle.numbers.specs.declared.Before.the-variants.{Nothing, Poured, Held}
 use Rattle.numbers.specs.declared.Verdict.{Verdict}
 use Rattle.numbers.specs.declared.Verdict.the-variants.{Begins, Belongs, Refused}
+
+-- numbers are the same if each is
+pub same-numbers : {q q′ t t′ l l′ b b′ : ℕ} → q ≡ q′ → t ≡ t′ → l ≡ l′ → b ≡ b′
+    → _≡_ {A = GroupNumbers} (record { sequence = q; timestamp = t; l = l; b = b }) (record { sequence = q′; timestamp = t′; l = l′; b = b′ })
+same-numbers i j k l = cc
 
 -- ---- L, B and base timestamp
 module _ (held new : GroupNumbers) where
@@ -74,13 +79,13 @@ module _ (p : ℕ) where
   off-the-clock n = simp (ne-eqb _ _ n)
 
   module _ (z : p % 160 ≡ 0) where
-    pub too-far : 3000 < p / 160 → Refused TooFarAhead ≡ afterPause p
+    pub too-far : minute < p / 160 → Refused TooFarAhead ≡ afterPause p
     unfolding afterPause
-    too-far h = simp (eq-eqb _ _ z, lt-ltb 3000 _ h)
+    too-far h = simp (eq-eqb _ _ z, lt-ltb minute _ h)
 
-    pub whole-frames : p / 160 ≤ 3000 → Begins (p / 160) ≡ afterPause p
+    pub whole-frames : p / 160 ≤ minute → Begins (p / 160) ≡ afterPause p
     unfolding afterPause
-    whole-frames h = simp (eq-eqb _ _ z, le-ltb 3000 _ h)
+    whole-frames h = simp (eq-eqb _ _ z, le-ltb minute _ h)
 
 -- ---- the distance from the end of the last poured group
 module _ (poured new : GroupNumbers) (e : ℕ) (q : e ≡ gap poured new) where
@@ -93,6 +98,17 @@ module _ (poured new : GroupNumbers) (e : ℕ) (q : e ≡ gap poured new) where
 
   pub by-clock : e < 32768 → (p : ℕ) (w : Verdict) → p ≡ pause poured new → w ≡ afterPause p → w ≡ afterPoured poured new
   by-clock h p w i j = j ∙ ap afterPause i ∙ by-gap false (lt-leb 32768 e h)
+
+-- past 13, the clock decides
+pub clock-decided : (poured new : GroupNumbers) → gap poured new < 32768 → afterPause (pause poured new) ≡ afterPoured poured new
+clock-decided poured new h = by-clock poured new (gap poured new) refl h (pause poured new) (afterPause (pause poured new)) refl refl
+
+-- after a pause of k frames so many are lost
+pub frames-lost : (poured new : GroupNumbers) → gap poured new < 32768 → (k : ℕ) → k ≤ minute → pause poured new ≡ 160 * k → Begins k ≡ afterPoured poured new
+frames-lost poured new h k few e =
+    let p = pause poured new in
+    let q : k ≡ p / 160 = omega arith in
+    ap Begins q ∙ whole-frames p (omega arith) (omega arith) ∙ clock-decided poured new h
 
 -- ---- in each case
 module _ (group : Before) (new : GroupNumbers) where
@@ -137,19 +153,19 @@ held-ends held new = by-distance (eqb d 0) (leb d (held .l)) (leb d 32767)
 
 pub data PouredEnds (poured new : GroupNumbers) (w : Verdict) : Type 0 where
   refused : (r : Refusal) → eqb (numberOf r) 12 ≡ false → w ≡ Refused r → PouredEnds poured new w
-  follows : (lost : ℕ) → lost ≡ pause poured new / 160 → lost ≤ 3000 → w ≡ Begins lost → PouredEnds poured new w
+  follows : (lost : ℕ) → lost ≡ pause poured new / 160 → lost ≤ minute → w ≡ Begins lost → PouredEnds poured new w
 
 pub poured-ends : (poured new : GroupNumbers) → PouredEnds poured new (afterPoured poured new)
 unfolding afterPoured afterPause
-poured-ends poured new = by-tests (leb 32768 (gap poured new)) (eqb (p % 160) 0) (ltb 3000 (p / 160)) refl
+poured-ends poured new = by-tests (leb 32768 (gap poured new)) (eqb (p % 160) 0) (ltb minute (p / 160)) refl
   where
     p : ℕ
     p = pause poured new
 
-    by-tests : (x y z : Bool) → ltb 3000 (p / 160) ≡ z
+    by-tests : (x y z : Bool) → ltb minute (p / 160) ≡ z
         → PouredEnds poured new
         (cond x (Refused EarlierGroup) (cond y (cond z (Refused TooFarAhead) (Begins (p / 160))) (Refused OffTheClock)))
     by-tests true y z q = refused EarlierGroup refl refl
     by-tests false false z q = refused OffTheClock refl refl
     by-tests false true true q = refused TooFarAhead refl refl
-    by-tests false true false q = follows (p / 160) refl (ltb-false 3000 (p / 160) q) refl
+    by-tests false true false q = follows (p / 160) refl (ltb-false minute (p / 160) q) refl

@@ -46,11 +46,15 @@ groupEnd g = g .timestamp + 160 * ((g .l + 1) * g .b)
 abbrev pub pause : GroupNumbers → GroupNumbers → ℕ
 pause poured new = minus 32 (new .timestamp) (groupEnd poured)
 
+-- the most frames that are lost before a group: (02, ii) "3,000 (one minute)"
+abbrev pub minute : ℕ
+minute = 3000
+
 -- (02, ii) "new 24 if the difference is no multiple of 160"; "16 is given if the quotient is over 3,000 (one minute)"; else "The lost
 -- frames before a new group become" the quotient
 unfoldable pub afterPause : ℕ → Verdict
 afterPause p =
-    cond (eqb (p % 160) 0) (cond (ltb 3000 (p / 160)) (Refused TooFarAhead) (Begins (p / 160))) (Refused OffTheClock)
+    cond (eqb (p % 160) 0) (cond (ltb minute (p / 160)) (Refused TooFarAhead) (Begins (p / 160))) (Refused OffTheClock)
 
 -- "With no group held but one poured before (base b, length L, bundle B)": "e of 32,768 or more, 13"; (02, ii) "13 stays", and the pause
 -- decides: "order 13, 24, 16"

@@ -13,7 +13,7 @@ use Rattle.answers.specs.declared.Refusal.{Refusal}
 use Rattle.answers.specs.declared.Refusal.the-variants.{AnotherSource, PacketDiffers, NotApplicable}
 use Rattle.payload.specs.Payload.{Reading, packet, refusedPayload, readAs}
 use Rattle.payload.proofs.Faulting.{never-later}
-use Rattle.numbers.specs.Place.{pause, withHeld, afterPoured, decided}
+use Rattle.numbers.specs.Place.{pause, minute, withHeld, afterPoured, decided}
 use Rattle.numbers.specs.declared.Before.the-variants as before
 use Rattle.numbers.specs.declared.Verdict.{Verdict}
 use Rattle.numbers.proofs.PlaceLaws.{HeldEnds, held-ends, PouredEnds, poured-ends}
@@ -55,7 +55,7 @@ pub data Placed (u : Shape) (s : Session) (a : Arrival) (o : Offered) : Type 0 w
       → o ≡ accept (withGroup s (withPacket u (s .group) (a .n) (a .packet))) 0 → Placed u s a o
   first : isNothing u (s .group) ≡ true → s .poured ≡ false → o ≡ begins u s a 0 → Placed u s a o
   next : isNothing u (s .group) ≡ true → s .poured ≡ true → (lost : ℕ) → lost ≡ pause (lastNumbers s) (a .numbers) / 160
-      → lost ≤ 3000 → o ≡ begins u s a lost → Placed u s a o
+      → lost ≤ minute → o ≡ begins u s a lost → Placed u s a o
 
 module _ (u : Shape) (s : Session) (a : Arrival) where
   -- it belongs to the held group

@@ -1,3 +1,4 @@
+-- `answers::Refusal::number` meets its contract.
 use borrow.Author.Needs.{needs}
 use Rattle.answers.proofs.Refusal.number.Statement.{statement}
 use Rattle.answers.proofs.Refusal.number.Tie as tie

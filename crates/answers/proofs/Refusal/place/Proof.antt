@@ -1,3 +1,4 @@
+-- `answers::Refusal::place` meets its contract.
 use borrow.Author.Needs.{needs}
 use Rattle.answers.proofs.Refusal.place.Statement.{statement}
 use Rattle.answers.proofs.Refusal.place.Tie as tie

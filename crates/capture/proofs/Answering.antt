@@ -80,7 +80,7 @@ step-octets kind s h = ap (λ (w : List ℕ). readied kind s h .octets ++ w) (of
 
 -- ---- 12 comes of an open session that holds a group; pouring ends that group, so the second answer is never 12
 module _ (v : FrameTable) (h : Heard) where
-  twelve-held : (s : Session) → isTwelve (offeredTo v s h .answer) ≡ true → (isOpen (voiceWith v) s ≡ true) × (isNothing holdingShape (s .group) ≡ false)
+  pub twelve-held : (s : Session) → isTwelve (offeredTo v s h .answer) ≡ true → (isOpen (voiceWith v) s ≡ true) × (isNothing holdingShape (s .group) ≡ false)
   unfolding offeredTo isTwelve refuse accept begins
   twelve-held s = go (offered (voiceWith v) s (h .source) (h .sequence) (h .timestamp) (h .payload)) (offer-ends (voiceWith v) s (h .source) (h .sequence) (h .timestamp) (h .payload))
     where
@@ -94,7 +94,7 @@ module _ (v : FrameTable) (h : Heard) where
       by-place : (a : Arrival) (o : Offered) → Placed holdingShape s a o → isTwelve (o .answer) ≡ true → isNothing holdingShape (s .group) ≡ false
       by-place a o (no r n e) t = held o r e t (isNothing holdingShape (s .group)) n
       by-place a o (again q e) t = q
-      by-place a o (put q l b e) t = q
+      by-place a o (put q k l b e) t = q
       by-place a o (first q p e) t = unlike o _ e refl t
       by-place a o (next q p lost f g e) t = unlike o _ e refl t
 
@@ -111,7 +111,7 @@ module _ (v : FrameTable) (h : Heard) where
       go true e = let z : false ≡ true = sym (twelve-held s e .1) ∙ q in apart (cc)
       go false e = refl
 
-  pouring-ends : (s : Session) → isOpen (voiceWith v) s ≡ true → isNothing holdingShape (s .group) ≡ false → pouring v s .session ≡ ended holdingShape s
+  pub pouring-ends : (s : Session) → isOpen (voiceWith v) s ≡ true → isNothing holdingShape (s .group) ≡ false → pouring v s .session ≡ ended holdingShape s
   unfolding pouring pouredOf pourMade poured
   pouring-ends s i q = simp (i, group-has (voiceWith v) s (open-has (voiceWith v) s i .group) q .0)
 

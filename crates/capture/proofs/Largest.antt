@@ -188,7 +188,7 @@ placed-brings : (s : Session) (a : Arrival) (o : Offered) → Placed holdingShap
 unfolding begins withGroup
 placed-brings s a o (no x n e) = nothing-new x e
 placed-brings s a o (again q e) = more s 0 e refl refl (omega arith) (omega arith)
-placed-brings s a o (put q f i e) =
+placed-brings s a o (put q k f i e) =
     let g = s .group in
     let held : weight s ≡ 80 + 220 * heldBelow g 8 = simp q in
     more (withGroup s (withPacket holdingShape g (a .n) (a .packet))) 0 e refl refl (omega arith)

@@ -2,3 +2,7 @@ pub mod CaptureLaws
 pub mod Largest
 pub mod RunLaws
 pub mod Answering
+pub mod Staying
+pub mod InPlace
+pub mod Anew
+pub mod WeighingLaws

@@ -1,23 +1,19 @@
 -- The run over a capture, step by step. Assumes nothing.
-use Prim.Native.Nat.{ℕ, zero, suc, _+_, _-_, _*_, _≤_, _<_}
+use Prim.Native.Nat.{ℕ, zero, suc, _+_, _-_, _≤_, _<_}
 use mathlib.Core.Bool.{Bool, true, false}
 use mathlib.Core.Path.{_≡_, refl, sym, ap, ap₂, _∙_}
 use mathlib.Core.List.{List, [], _∷_, _++_, append-assoc, append-nil}
 use native.Mathlib.Nat.{le-refl, add-zero, zero-add}
 use native.Mathlib.Omega.{arith}
-use lib.ListN.{length, take, drop, replicate, length-append, length-replicate}
-use lib.Seq.{take-at}
-use lib.Dec.{T, eqb, leb}
+use lib.ListN.{length, drop, length-append}
+use lib.Dec.{T}
 use borrow.Author.Tests.{le-leb, lt-leb}
-use Rattle.octets.specs.Octets.{over, twoAt, fourAt}
-use Rattle.octets.proofs.Logic.{apart}
-use Rattle.octets.proofs.OctetsLaws.{over-append, over-nothing, length-over, part-is}
+use Rattle.octets.specs.Octets.{over}
+use Rattle.octets.proofs.OctetsLaws.{over-append, over-nothing, length-over}
 use Rattle.frame.specs.FrameTable.{FrameTable, within, erases}
-use Rattle.frame.specs.Shape.{holdingShape, voiceWith}
+use Rattle.frame.specs.Shape.{holdingShape}
 use Rattle.frame.specs.Places.{upTo}
-use Rattle.answers.specs.Answers.{numberOf}
-use Rattle.answers.specs.Outputs.{Made, octets, refusedOutput, writtenOf, outAfter, Writes}
-use Rattle.answers.specs.declared.Refusal.{Refusal}
+use Rattle.answers.specs.Outputs.{Made, octets, writtenOf, outAfter, Writes}
 use Rattle.answers.specs.declared.Refusal.the-variants.{NoRoom}
 use Rattle.answers.specs.declared.Written.{Written}
 use Rattle.answers.specs.declared.Written.the-variants as written
@@ -25,22 +21,20 @@ use Rattle.entries.specs.Kind.{Kind}
 use Rattle.entries.specs.Entries.{entries}
 use Rattle.recording.specs.Recording.{recordingMade}
 use Rattle.numbers.specs.Place.{minute}
-use Rattle.session.specs.Session.{neverOpened, fresh, formRight, openedFor, offered, pourMade, ended, afterPour}
+use Rattle.session.specs.Session.{neverOpened, vacant, fresh, isOpen, pourMade}
 use Rattle.session.specs.declared.Session.{Session}
 use Rattle.session.specs.declared.Offered.{Offered}
-use Rattle.session.specs.declared.Started.{Started}
-use Rattle.form.specs.declared.Form.the-variants.{Interleaved}
 use Rattle.session.specs.declared.Taken.{Taken}
-use Rattle.session.specs.declared.Taken.the-variants.{Accepted, Refused}
+use Rattle.session.specs.declared.Taken.the-variants.{Refused}
 use Rattle.frame.proofs.PlacesLaws.{length-upTo, upTo-more, upTo-first}
 use Rattle.frame.proofs.FrameTableLaws.{rows-within, rows-erases}
-use Rattle.capture.specs.Capture.{Heard, countOf, startAt, heardAt, packetsIn, good}
-use Rattle.capture.specs.Run.{captureVocoder, captureKind, Step, still, andThen, captureForm, firstSession, offeredTo, takenOf, offering, pouredOf, pouring, isTwelve}
-use Rattle.capture.specs.Run.{lostIn, readied, stepOf, runOf, wholeRun, entriesRecorded, captureRecording, largest, Put, Does, recordAnswer}
+use Rattle.capture.specs.Capture.{Heard, countOf, heardAt, packetsIn, good}
+use Rattle.capture.specs.Run.{captureVocoder, captureKind, Step, still, andThen, captureForm, firstSession, offeredTo, offering, pouredOf, pouring, isTwelve}
+use Rattle.capture.specs.Run.{lostIn, readied, answeredBy, stepOf, runOf, wholeRun, entriesRecorded, captureRecording, largest, Put, Does, recordAnswer}
 use Rattle.capture.specs.Run.{recordOutput}
 use Rattle.capture.specs.declared.Run.{Run}
 use Rattle.capture.specs.declared.Outcome.the-variants as outcome
-use Rattle.capture.proofs.Largest.{pour-most, lost-few, run-few, all-few}
+use Rattle.capture.proofs.Largest.{lost-few, run-few, all-few}
 use Rattle.capture.proofs.CaptureLaws.{good-is}
 
 -- the frame table of a capture: no body is longer than 22 octets, and an erasure has none
@@ -76,47 +70,17 @@ pub run-last : (kind : Kind) (s : Session) (hs : List Heard) (h : Heard) → run
 unfolding andThen
 run-last kind s hs h = let a = runOf kind s hs in run-append kind s hs (h ∷ []) ∙ ap (before a) (one-step kind (a .session) h)
 
-run-more : (kind : Kind) (s : Session) (f : ℕ → Heard) (i : ℕ) → runOf kind s (upTo f (i + 1)) ≡ andThen (runOf kind s (upTo f i)) (λ t. stepOf kind t (f i))
+pub run-more : (kind : Kind) (s : Session) (f : ℕ → Heard) (i : ℕ) → runOf kind s (upTo f (i + 1)) ≡ andThen (runOf kind s (upTo f i)) (λ t. stepOf kind t (f i))
 run-more kind s f i = ap (runOf kind s) (upTo-more f i) ∙ run-last kind s (upTo f i) (f i)
 
 -- ---- the first session
-pub first-none : (c : List ℕ) (n : ℕ) → n ≡ countOf c → n ≡ 0 → neverOpened holdingShape ≡ firstSession (packetsIn c)
-unfolding packetsIn firstSession upTo
-first-none c n e z = let q : countOf c ≡ 0 = sym e ∙ z in rw q
-
-first-some : (c : List ℕ) (n : ℕ) → n ≡ countOf c → (n ≡ 0 → ⊥) → fresh holdingShape (heardAt c 0 .source) captureForm ≡ firstSession (packetsIn c)
+pub first-some : (c : List ℕ) (n : ℕ) → n ≡ countOf c → (n ≡ 0 → ⊥) → fresh holdingShape (heardAt c 0 .source) captureForm ≡ firstSession (packetsIn c)
 unfolding packetsIn firstSession
 first-some c n e z = go (countOf c) (λ (q : countOf c ≡ 0). z (e ∙ q))
   where
     go : (m : ℕ) → (m ≡ 0 → ⊥) → fresh holdingShape (heardAt c 0 .source) captureForm ≡ firstSession (upTo (heardAt c) m)
     go zero h = absurd (h refl)
     go (suc m) h = ap firstSession (sym (upTo-first (heardAt c) m))
-
-pub first-opened :
-    (c : List ℕ) (n x : ℕ) (s : Session) (t : Started) →
-    n ≡ countOf c →
-    (n ≡ 0 → ⊥) →
-    x ≡ fourAt c 2 →
-    t ≡ openedFor holdingShape s x (Interleaved (record { «max_l» = 7; «max_b» = 10 })) →
-    t .session ≡ firstSession (packetsIn c)
-unfolding heardAt openedFor formRight captureForm
-first-opened c n x s t e z y q = ap (λ (o : Started). o .session) q ∙ ap (λ (i : ℕ). fresh holdingShape i captureForm) y ∙ first-some c n e z
-
--- ---- a packet of the capture, offered
-pub offer-heard :
-    (v : FrameTable) (s : Session) (c : List ℕ) (i source sequence timestamp start size : ℕ) (r : Offered) →
-    source ≡ fourAt c (2 + 12 * i) →
-    sequence ≡ twoAt c (2 + 12 * i + 4) →
-    timestamp ≡ fourAt c (2 + 12 * i + 6) →
-    size ≡ twoAt c (2 + 12 * i + 10) →
-    start ≡ startAt c i →
-    r ≡ offered (voiceWith v) s source sequence timestamp (take (start + size - start) (drop start c)) →
-    r ≡ offeredTo v s (heardAt c i)
-unfolding heardAt offeredTo
-offer-heard v s c i source sequence timestamp start size r a b d e f q =
-    let p : take (start + size - start) (drop start c) ≡ take (twoAt c (2 + 12 * i + 10)) (drop (startAt c i) c) =
-    part-is c start size ∙ ap₂ (λ (n m : ℕ). take n (drop m c)) e f in
-    rw (← a, ← b, ← d, ← p) q
 
 -- ---- written where it fits
 put-nothing : (d : List ℕ) (at : ℕ) → Put d at [] d
@@ -150,30 +114,6 @@ pub does-nothing : (a : Step) (d : List ℕ) (r : Run) (w : List Taken) → a �
 does-nothing a d r w q = rw q (record { session = refl; counted = sym (add-zero (r .octets)); written = put-nothing d (r .octets) })
 
 -- ---- an offer
-pub not-taken : (kind : Kind) (s t : Session) (a : Taken) (r : Refusal) → a ≡ Refused r → takenOf kind s t a ≡ still s (Refused r ∷ [])
-unfolding takenOf
-not-taken kind s t a r q = ap (takenOf kind s t) q
-
-pub lost-is : (a : Taken) (lost : ℕ) → a ≡ Accepted lost → lostIn a ≡ lost
-unfolding lostIn
-lost-is a lost q = ap lostIn q
-
-pub taken :
-    (kind : Kind) (s t : Session) (a : Taken) (lost at : ℕ) (d e : List ℕ) →
-    a ≡ Accepted lost →
-    Put d at (replicate lost (kind .erasure)) e →
-    Does (takenOf kind s t a) at d (record { session = t; octets = at + lost }) e
-unfolding takenOf
-taken kind s t a lost at d e q p = rw q (record { session = refl; counted = ap (λ (n : ℕ). at + n) (sym (length-replicate lost (kind .erasure))); written = p })
-
-pub twelve-no : (lost : ℕ) → false ≡ isTwelve (Accepted lost)
-unfolding isTwelve
-twelve-no lost = refl
-
-pub twelve-is : (r : Refusal) (n : ℕ) → n ≡ numberOf r → eqb n 12 ≡ isTwelve (Refused r)
-unfolding isTwelve
-twelve-is r n e = ap (λ (i : ℕ). eqb i 12) e
-
 readied-later : (kind : Kind) (s : Session) (h : Heard) (b : Bool) → b ≡ isTwelve (offeredTo (kind .table) s h .answer) → b ≡ true → pouring (kind .table) s ≡ readied kind s h
 unfolding readied
 readied-later kind s h b e q = let z : isTwelve (offeredTo (kind .table) s h .answer) ≡ true = sym e ∙ q in simp z
@@ -181,10 +121,6 @@ readied-later kind s h b e q = let z : isTwelve (offeredTo (kind .table) s h .an
 readied-once : (kind : Kind) (s : Session) (h : Heard) (b : Bool) → b ≡ isTwelve (offeredTo (kind .table) s h .answer) → b ≡ false → readied kind s h ≡ still s []
 unfolding readied
 readied-once kind s h b e q = let z : isTwelve (offeredTo (kind .table) s h .answer) ≡ false = sym e ∙ q in simp z
-
-offering-is : (kind : Kind) (s : Session) (h : Heard) (o : Offered) → o ≡ offeredTo (kind .table) s h → takenOf kind s (o .session) (o .answer) ≡ offering kind s h
-unfolding offering
-offering-is kind s h o e = ap (λ (x : Offered). takenOf kind s (x .session) (x .answer)) e
 
 -- ---- the last offer of a packet: the first, or on 12 a second after pouring
 module _ (kind : Kind) (h : Heard) (d : List ℕ) (r : Run) (o : Offered) (b : Bool) (first : o ≡ offeredTo (kind .table) (r .session) h) (twelve : b ≡ isTwelve (o .answer)) where
@@ -198,68 +134,16 @@ module _ (kind : Kind) (h : Heard) (d : List ℕ) (r : Run) (o : Offered) (b : B
   later-ready p e q x = does-as _ _ (r .octets) d e p (readied-later kind (r .session) h b asked q) x
 
 -- ---- a step: what is done before, and then the offer
-pub step-does : (kind : Kind) (s : Session) (h : Heard) (at : ℕ) (d e e′ : List ℕ) (p r : Run) (o : Offered) → Does (readied kind s h) at d p e →
-    o ≡ offeredTo (kind .table) (p .session) h → Does (takenOf kind (p .session) (o .session) (o .answer)) (p .octets) e r e′ → Does (stepOf kind s h) at d r e′
-unfolding stepOf
-step-does kind s h at d e e′ p r o x y z =
-    does-then (readied kind s h) _ (λ t. offering kind t h) at d e e′ p r x (offering-is kind (p .session) h o y ∙ ap (λ (t : Session). offering kind t h) (x .session)) z
+module _ (kind : Kind) (s : Session) (h : Heard) (at : ℕ) (d e : List ℕ) (p : Run) (x : Does (readied kind s h) at d p e) where
+  pub step-does : (e′ : List ℕ) (r : Run) → Does (offering kind (p .session) h) (p .octets) e r e′ → Does (stepOf kind s h) at d r e′
+  unfolding stepOf
+  step-does e′ r z = does-then (readied kind s h) _ (λ t. offering kind t h) at d e e′ p r x (ap (λ (t : Session). offering kind t h) (x .session)) z
+
+  pub step-answered : (a : Taken) → a ≡ offeredTo (kind .table) (p .session) h .answer → a ≡ answeredBy kind s h
+  step-answered a q = q ∙ ap (λ (t : Session). offeredTo (kind .table) t h .answer) (x .session)
 
 pub lost-fit : (v : FrameTable) (s : Session) (h : Heard) (o : Offered) → o ≡ offeredTo v s h → lostIn (o .answer) ≤ minute
 lost-fit v s h o e = rw e (lost-few v s h)
-
--- ---- pouring, into room for any group
-module _ (v : FrameTable) (w : T (within 22 v)) (z : T (erases v)) (s : Session) (room room′ : List ℕ) (long : length room ≡ 1840) where
-  pub pours-none : (a : Written) (r : Refusal) → Writes (pourMade (voiceWith v) s) room a room′ → a ≡ written.Refused r → pouring v s ≡ still s []
-  unfolding pouring pouredOf writtenOf
-  pours-none a r x q = go (pourMade (voiceWith v) s) refl (sym q ∙ x .answer)
-    where
-      go : (m : Made) → pourMade (voiceWith v) s ≡ m → written.Refused r ≡ writtenOf m room → pouredOf s m ≡ still s []
-      go (refusedOutput y) e a = refl
-      go (octets y) e a =
-          let h : length y ≤ length room = omega (arith, pour-most v w z s y e) in
-          let k : leb (length y) (length room) ≡ true = le-leb _ _ h in
-          let b : written.Refused r ≡ written.Octets (length y) = a ∙ simp k in
-          apart (cc)
-
-  -- the octets that were poured, of the room that was lent
-  pub record Poured (n : ℕ) : Type 0 where
-    pub step : pouring v s ≡ record { session = ended holdingShape s; octets = take n room′; answers = [] }
-    pub count : n ≡ length (take n room′)
-    pub inside : n ≤ length room′
-    pub few : n ≤ 1840
-
-  pub pours-some : (a : Written) (n : ℕ) → Writes (pourMade (voiceWith v) s) room a room′ → a ≡ written.Octets n → Poured n
-  unfolding pouring pouredOf writtenOf outAfter
-  pours-some a n x q = go (pourMade (voiceWith v) s) refl (sym q ∙ x .answer) (x .output)
-    where
-      go : (m : Made) → pourMade (voiceWith v) s ≡ m → written.Octets n ≡ writtenOf m room → room′ ≡ outAfter m room → Poured n
-      go (refusedOutput y) e a o = apart (cc)
-      go (octets y) e a o =
-          let h : length y ≤ length room = omega (arith, pour-most v w z s y e) in
-          let k : leb (length y) (length room) ≡ true = le-leb _ _ h in
-          let b : written.Octets n ≡ written.Octets (length y) = a ∙ simp k in
-          let q : n ≡ length y = cc in
-          let f : room′ ≡ y ++ drop (length y) room = o ∙ simp k in
-          let t : take n room′ ≡ y = ap (take n) f ∙ take-at y (drop (length y) room) n (sym q) in
-          record {
-            step = ap (pouredOf s) e ∙ ap (λ (l : List ℕ). recorded (ended holdingShape s) l []) (sym t);
-            count = q ∙ ap length (sym t);
-            inside = omega (arith, ap length f, length-append y (drop (length y) room));
-            few = omega arith;
-          }
-
-  -- the run after it: what was poured stands where it was put
-  pub poured-does :
-      (a : Written) (n at : ℕ) (d e : List ℕ) (t : Session) →
-      Writes (pourMade (voiceWith v) s) room a room′ →
-      a ≡ written.Octets n →
-      t ≡ afterPour holdingShape s a →
-      Put d at (take n room′) e →
-      Does (pouring v s) at d (record { session = t; octets = at + n }) e
-  unfolding afterPour
-  poured-does a n at d e t x q y p =
-      let b = pours-some a n x q in
-      rw (b .step) (record { session = y ∙ ap (afterPour holdingShape s) q; counted = ap (λ (i : ℕ). at + i) (b .count); written = p })
 
 -- ---- the run over the packets, one after the other
 module _ (kind : Kind) (s : Session) (at : ℕ) (d : List ℕ) where
@@ -332,6 +216,11 @@ pub whole-run : (kind : Kind) (c out out₁ out₂ out₃ : List ℕ) (s : Sessi
 whole-run kind c out out₁ out₂ out₃ s r r′ l e p x y =
     let k : Does (runOf kind (firstSession (packetsIn c)) (packetsIn c)) 7 out₁ r out₂ = rw (← e) x in
     whole kind c out out₁ out₃ r′ l p (does-then (runOf kind (firstSession (packetsIn c)) (packetsIn c)) _ (pouring (kind .table)) 7 out₁ out₂ out₃ r r′ k (ap (pouring (kind .table)) (k .session)) y)
+
+-- of no packet it is the opening
+pub none-recorded : (kind : Kind) (c : List ℕ) (n : ℕ) → n ≡ countOf c → n ≡ 0 → captureRecording kind c ≡ kind .opening
+unfolding captureRecording entriesRecorded wholeRun packetsIn upTo runOf andThen firstSession pouring pouredOf pourMade isOpen neverOpened vacant
+none-recorded kind c n e z = let q : countOf c ≡ 0 = sym e ∙ z in rw q (append-nil (kind .opening))
 
 -- nothing is larger
 pub largest-is : (kind : Kind) → T (within 22 (kind .table)) → T (erases (kind .table)) → (c : List ℕ) → length (kind .opening) ≡ 7 → good c ≡ true → length (captureRecording kind c) ≤ largest

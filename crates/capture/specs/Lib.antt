@@ -1,2 +1,4 @@
 pub mod Capture
 pub mod Run
+pub mod Going
+pub mod Weighing

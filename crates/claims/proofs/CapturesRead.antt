@@ -135,7 +135,7 @@ module _ (kind : Kind) (r : HasRoom (voiceWith (kind .table))) (u : T (single (k
   unfolding takenOf refuse accept begins arrival withGroup
   placed-good s q t l n fs i f o (no x k e) = rw e (record { fine = f; entries = entries-none (kind .table) })
   placed-good s q t l n fs i f o (again a e) = rw e (record { fine = f; entries = entries-none (kind .table) })
-  placed-good s q t l n fs i f o (put a b c e) = rw e (record { fine = boxed (put-fine s q t l n fs i f a b c); entries = entries-none (kind .table) })
+  placed-good s q t l n fs i f o (put a k b c e) = rw e (record { fine = boxed (put-fine s q t l n fs i f a b c); entries = entries-none (kind .table) })
   placed-good s q t l n fs i f o (first a b e) = rw e (record { fine = boxed (begun-fine (s .source) n _ fs i refl); entries = entries-none (kind .table) })
   placed-good s q t l n fs i f o (next a b lost c d e) = rw e (record { fine = boxed (begun-fine (s .source) n _ fs i refl); entries = entries-lost kind lists lost })
 

@@ -1,15 +1,20 @@
 -- Any two outcomes that a call's contract allows are equal: each is what the contract says of the same arguments. Assumes nothing.
 use Prim.Native.Nat.{ℕ}
 use mathlib.Core.Path.{_≡_, sym, ap, ap₂, _∙_}
-use mathlib.Core.List.{List}
+use mathlib.Core.List.{List, []}
 use denote.Ref.{RefT}
 use Rattle.answers.specs.Outputs.{Made, Writes}
 use Rattle.frame.specs.Places.{VeryPart}
 use Rattle.answers.specs.declared.Written.{Written}
+use Rattle.bundle.specs.declared.Bundle.{Bundle}
 use Rattle.session.specs.Session.{afterPour}
+use Rattle.session.specs.declared.Session.{Session}
+use Rattle.session.specs.declared.Offered.{Offered}
+use Rattle.session.specs.declared.Stood.{Stood}
 use Rattle.lending.specs.Calls.{pourOctets}
+use Rattle.claims.specs.Calls.Lent.{LentMarksRoom}
 use Rattle.claims.specs.Determined.{Determined}
-use Rattle.claims.proofs.Seen.{dst-lent, out-lent, session-lent, holding-lent, alone, reference, only, answer-with, poured}
+use Rattle.claims.proofs.Seen.{standing-in, marks-room-lent, dst-lent, out-lent, session-lent, holding-lent, alone, reference, only, answer-with, poured}
 use Rattle.claims.proofs.Seen.{lent-poured, packet-seen, frame-seen, count-seen, write-seen, pour-seen}
 use Rattle.claims.proofs.Seen.{holding-seen, lost-seen, at-place, offer-seen-at}
 
@@ -39,6 +44,13 @@ pours : {S B : Type 0} (after : Written → S) (seen : Written → List ℕ → 
 pours after seen p q =
     let e = writes (p .0) (q .0) in
     ap₂ (λ w s. seen (w .0) (w .1 .out) s) e (p .1 ∙ ap (λ w. after (w .0)) e ∙ sym (q .1))
+
+-- ---- of a session in parts: what it is put together from, and what is seen of a packet that was laid out or taken
+abbrev bundle-seen : Bundle → Unit {0} × LentMarksRoom
+bundle-seen p = (tt, record { marks = p .marks; room = p .room })
+
+abbrev taken-seen : Offered → Stood × LentMarksRoom
+taken-seen o = (record { answer = o .answer; standing = standing-in (o .session) }, marks-room-lent (o .session))
 
 -- ---- every public call
 pub determined : Determined
@@ -144,4 +156,14 @@ determined = record {
   refusalPlace = record { equal = by alone };
   captureAnswer = record { equal = by alone };
   lvCaptureAnswer = record { equal = by-both (at-place lost-seen) };
+  payloadLayFrames = record { equal = by bundle-seen };
+  pouringPourSize = record { equal = λ p q. by alone (p .0) (q .0) };
+  pouringPourRows = record { equal = by (only out-lent) };
+  pouringPourHeld = record { equal = writes };
+  sessionDecide = record { equal = by alone };
+  sessionBeginGroup = record { equal = by alone };
+  sessionHoldPacket = record { equal = by alone };
+  sessionTake = record { equal = by taken-seen };
+  sessionEndGroup = record { equal = λ p q. by (λ (s : Session). alone (standing-in s)) (p [] []) (q [] []) };
+  sessionFresh = record { equal = by (λ (s : Session). alone (standing-in s)) };
 }

@@ -30,8 +30,9 @@ use Rattle.knowledge.proofs.JoinLaws.{box-sound}
 use Rattle.knowledge.proofs.KnowledgeLaws.{known-held, cellFor, cell-known}
 use Rattle.knowledge.proofs.PacketLaws.{packets-refl}
 use Rattle.knowledge.proofs.PutLaws.{Keeps, with-head, put-box, put-knows, put-others, begun-keeps, begun-lost}
-use Rattle.session.proofs.Ends.{open-has}
-use Rattle.session.specs.Session.{fresh, vacant, lastRight, groupRight, isOpen, accept, refuse, withGroup, pourMade, copied, groupBefore}
+use Rattle.session.proofs.Ends.{fresh-open}
+use Rattle.capture.proofs.Staying.{open-with}
+use Rattle.session.specs.Session.{fresh, vacant, isOpen, accept, refuse, withGroup, pourMade, copied, groupBefore}
 use Rattle.session.specs.Session.{begins, belongs, placedBy, placed, arrival, judged, received, offered}
 use Rattle.session.specs.declared.Session.{Session}
 use Rattle.session.specs.declared.Offered.{Offered}
@@ -45,7 +46,7 @@ use Rattle.claims.specs.Offering.{SentGroup, Sent, sentNumbers, numbered
 use Rattle.claims.specs.Offering.{sentPacket, knowledge, HoldsExactly, PouredPlaces, FreshIsReady, OffersDeliver, OfGroup, Part}
 use Rattle.claims.specs.Boxes.{CopiedOut}
 use Rattle.claims.proofs.Joinings.{every-place-in-time}
-use Rattle.claims.proofs.Sessions.{fresh-open, lost-frames-by-formula, entries-length}
+use Rattle.claims.proofs.Sessions.{lost-frames-by-formula, entries-length}
 
 -- ---- the base numbers of a packet that was numbered and stamped
 base-back : (s n : ℕ) → s < 65536 → baseSequence ((s + n) % 65536) n ≡ s
@@ -83,13 +84,6 @@ module _ (v : Voice) (s : Session) (source sequence timestamp l n d : ℕ) (fs :
 -- ---- a holding that holds a packet is not that of nothing
 pub some-held : (v : Voice) (h : Holding) → Box v h → isNothing (v .shape) h ≡ false
 some-held v h x = sound-something v h (box-sound v h x)
-
--- ---- a session with another group held stays open
-open-with : (v : Voice) (s : Session) (h : Holding) → isOpen v s ≡ true → Box v h → h .source ≡ s .source → isOpen v (withGroup s h) ≡ true
-unfolding isOpen withGroup groupRight lastRight
-open-with v s h o x e =
-    let p = open-has v s o in
-    simp (p .opened, p .form, p .last, some-held v h x, x .some, eq-eqb (h .source) (s .source) e)
 
 -- the packets offered, named in another order
 exactly-as : {v : Voice} {form : Form} (s : Session) (g : Sent v form) (ds es : List ℕ) → ((i : ℕ) → among i ds ≡ among i es) → HoldsExactly s g ds → HoldsExactly s g es

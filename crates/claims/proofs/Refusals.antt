@@ -13,14 +13,20 @@ use Rattle.answers.specs.declared.Answer.{Answer}
 use Rattle.answers.specs.declared.Answer.the-variants as answer
 use Rattle.answers.specs.declared.Written.{Written}
 use Rattle.answers.specs.declared.Written.the-variants as written
-use Rattle.frame.specs.Shape.{Shape, Voice}
+use Rattle.frame.specs.FrameTable.{Frame}
+use Rattle.frame.specs.Shape.{Shape, Voice, holdingShape}
+use Rattle.bundle.specs.Bundles.{sameBundles}
+use Rattle.bundle.specs.LaidOut.{laid}
 use Rattle.form.specs.Agreed.{voiceFor}
 use Rattle.form.specs.declared.Form.{Form}
-use Rattle.holding.specs.Group.{nothing, isNothing, holds}
+use Rattle.holding.specs.Group.{nothing, isNothing, bundleAt, holds}
 use Rattle.holding.specs.declared.Holding.{Holding}
 use Rattle.joining.specs.Joining.{sameGroup, agree, either, refusedJoin, joinOf}
 use Rattle.joining.specs.declared.Joined.{Joined}
-use Rattle.session.specs.Session.{fresh, formRight, openedFor, isOpen, refuse, offered, ended, afterPour, noCopy, copied, notDropped, dropped}
+use Rattle.session.specs.Session.{fresh, formRight, openedFor, isOpen, refuse, accept, begins, offered, ended, afterPour, noCopy, copied, notDropped, dropped}
+use Rattle.session.specs.Standing.{decidedAs}
+use Rattle.session.specs.declared.Decision.{Decision}
+use Rattle.session.specs.declared.Decision.the-variants as decision
 use Rattle.session.specs.declared.Session.{Session}
 use Rattle.session.specs.declared.Started.{Started}
 use Rattle.session.specs.declared.Copied.{Copied}
@@ -41,7 +47,7 @@ use Rattle.claims.specs.Sessions.{RefusedOfferChangesNothing, AnotherSou
 use Rattle.claims.specs.Refusals.{RefusalsAreNumbered, RefusedAnswer, RefusedOffer, RefusedWriting, RefusedCapture, RattleDemand1, AnotherSource}
 use Rattle.claims.proofs.Sessions.{refused-offer-changes-nothing, another-source-is-10, another-sources-words-are-not-heard}
 use Rattle.claims.proofs.Demand1.{kept-output}
-use Rattle.claims.proofs.Seen.{out-lent, session-lent, offer-same}
+use Rattle.claims.proofs.Seen.{standing-in, marks-room-lent, out-lent, session-lent, offer-same}
 use Rattle.claims.proofs.Builds.{offer-told, host-offer-told}
 
 pub refusals-are-numbered : RefusalsAreNumbered
@@ -172,6 +178,18 @@ poured-kept (written.Refused r) o w i = refl
 answer-kept : {X : Type 0} (lent : List ℕ → X) {x y : Answer} {a b : List ℕ} (w : List ℕ) → x ≡ y → a ≡ layIf y b w → RefusedAnswer x → (lent a ≡ lent b) × Unit {0}
 answer-kept lent {x} {y} {a} {b} w e p i = (ap lent (p ∙ lay-kept y b w (subst RefusedAnswer e i)), tt)
 
+-- a packet taken as it was decided: a refusal leaves the session as it was
+take-kept : (s : Session) (fs : List Frame) (d : Decision) → RefusedOffer (decidedAs s fs d .answer) → decidedAs s fs d .session ≡ s
+unfolding decidedAs begins accept refuse
+take-kept s fs (decision.Begins g n lost) i = absurd i
+take-kept s fs (decision.PutIn n) i = absurd i
+take-kept s fs (decision.Again n) i = go (sameBundles (bundleAt holdingShape (s .group) n) (laid holdingShape fs))
+  where
+    go : (b : Bool) → cond b (accept s 0) (refuse s refusal.PacketDiffers) .session ≡ s
+    go true = refl
+    go false = refl
+take-kept s fs (decision.Refused r) i = refl
+
 pub rattle-demand-1 : RattleDemand1
 unfolding recordAnswer recordOutput openOctets offerOctets pourOctets copyOctets dropOctets endOctets joinOctets
 rattle-demand-1 = record {
@@ -180,11 +198,17 @@ rattle-demand-1 = record {
   packetWriteAgreed = record { so = λ p i. (ap out-lent (writes-kept _ _ p i), tt) };
   packetWriteHeaderFree = record { so = λ p i. (ap out-lent (writes-kept _ _ p i), tt) };
   pouringPour = record { so = λ p i. (ap out-lent (writes-kept _ _ p i), tt) };
+  pouringPourHeld = record { so = λ p i. (ap out-lent (writes-kept _ _ p i), tt) };
   captureRecord = record { so = λ p i. (ap out-lent (record-kept (good _) (octets (captureRecording captureKind _)) (p .0) (p .1) i), tt) };
   joiningJoin = record { so = λ p i. (refl, ap (λ (j : Joined). j .holding) p ∙ join-kept _ _ _ (subst (λ (j : Joined). RefusedAnswer (j .answer)) p i)) };
   sessionOpen = record { so = λ p i. (refl, ap (λ (j : Started). j .session) p ∙ open-kept _ _ _ _ (subst (λ (j : Started). RefusedAnswer (j .answer)) p i)) };
   sessionOpenAgreed = record { so = λ p i. (refl, ap (λ (j : Started). j .session) p ∙ open-kept _ _ _ _ (subst (λ (j : Started). RefusedAnswer (j .answer)) p i)) };
   sessionOffer = record { so = λ p i. (refl, ap (λ (j : Offered). j .session) p ∙ offer-kept _ _ _ _ _ _ (subst (λ (j : Offered). RefusedOffer (j .answer)) p i)) };
+  sessionTake = record {
+    so = λ p i.
+        let e = ap (λ (j : Offered). j .session) p ∙ take-kept _ _ _ (subst (λ (j : Offered). RefusedOffer (j .answer)) p i) in
+        (ap marks-room-lent e, ap standing-in e);
+  };
   sessionPour = record { so = λ p i. (ap out-lent (writes-kept _ _ (p .0) i), p .1 ∙ after-kept _ _ _ i) };
   sessionDropGroup = record { so = λ p i. (refl, ap (λ (j : Dropped). j .session) p ∙ drop-kept _ _ (subst (λ (j : Dropped). RefusedAnswer (j .answer)) p i)) };
   sessionCopyOut = record { so = λ p i. (refl, ap (λ (j : Copied). j .holding) p ∙ copy-kept _ _ (subst (λ (j : Copied). RefusedAnswer (j .answer)) p i)) };

@@ -6,12 +6,13 @@ use denote.Ref.{RefT, now, ptr}
 use Rattle.answers.specs.declared.Written.{Written}
 use Rattle.session.specs.declared.Poured.{Poured}
 use Rattle.session.specs.declared.Session.{Session}
+use Rattle.session.specs.declared.Standing.{Standing}
 use Rattle.landing.specs.Host.{PacketTold, packetTold, FrameTold, frameTold, CountTold, countTold, WriteTold, writeTold}
 use Rattle.landing.specs.Host.{HoldingTold, holdingTold}
 use Rattle.claims.specs.Call.{WithPlace}
 use Rattle.claims.specs.Calls.Lent.{LentDst, LentOut, LentSession, LentHolding, LentSessionOut, LentLNBD, LentKindStartSize}
 use Rattle.claims.specs.Calls.Lent.{LentCount, LentOutWritten, LentSessionLost, LentSessionOutWritten}
-use Rattle.claims.specs.Calls.Lent.{LentSourceSequenceTimestampLBHeld, LentLost}
+use Rattle.claims.specs.Calls.Lent.{LentSourceSequenceTimestampLBHeld, LentLost, LentMarksRoom}
 
 -- ---- octets lent under one name
 abbrev pub dst-lent : List ℕ → LentDst
@@ -25,6 +26,23 @@ session-lent o = record { session = o }
 
 abbrev pub holding-lent : List ℕ → LentHolding
 holding-lent o = record { holding = o }
+
+-- ---- all of a session but the types and bodies of its group
+abbrev pub standing-in : Session → Standing
+standing-in s =
+    record {
+      «open» = s .«open»;
+      source = s .source;
+      form = s .form;
+      «group_source» = s .group .source;
+      numbers = record { sequence = s .group .sequence; timestamp = s .group .timestamp; l = s .group .l; b = s .group .b };
+      held = s .group .held;
+      poured = s .poured;
+      last = record { sequence = s .«last_sequence»; timestamp = s .«last_timestamp»; l = s .«last_l»; b = s .«last_b» };
+    }
+
+abbrev pub marks-room-lent : Session → LentMarksRoom
+marks-room-lent s = record { marks = s .group .marks; room = s .group .room }
 
 -- ---- an answer alone, a reference alone, octets alone, and an answer with octets
 abbrev pub alone : {A : Type 0} → A → A × Unit {0}

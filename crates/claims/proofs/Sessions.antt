@@ -8,7 +8,7 @@ use lib.ListN.{length, length-append}
 use borrow.Author.Tests.{eq-eqb, ne-eqb}
 use Rattle.octets.proofs.Logic.{apart}
 use Rattle.frame.specs.FrameTable.{Frame}
-use Rattle.frame.specs.Shape.{Shape, Voice}
+use Rattle.frame.specs.Shape.{Shape}
 use Rattle.answers.specs.Outputs.{octets, refusedOutput}
 use Rattle.form.specs.declared.Form.{Form}
 use Rattle.answers.specs.declared.Refusal.the-variants.{NotApplicable}
@@ -20,9 +20,9 @@ use Rattle.bundle.specs.Bundles.{sameBundles}
 use Rattle.bundle.specs.LaidOut.{laid}
 use Rattle.holding.proofs.GroupLaws.{nothing-is}
 use Rattle.pouring.specs.Pouring.{inTime, poured}
-use Rattle.session.specs.Session.{vacant, neverOpened, fresh, formRight, lastRight, groupRight, openedFor, isOpen, refuse, accept}
+use Rattle.session.specs.Session.{vacant, neverOpened, fresh, openedFor, isOpen, refuse, accept}
 use Rattle.session.specs.Session.{groupBefore, begins, belongs, placedBy, placed, arrival, judged, received, offered}
-use Rattle.session.proofs.Ends.{Ends, refuses, places, Seen, kept, took, seen, offer-ends}
+use Rattle.session.proofs.Ends.{Ends, refuses, places, Seen, kept, took, seen, offer-ends, fresh-open}
 use Rattle.session.specs.declared.Arrival.{Arrival}
 use Rattle.session.specs.declared.Offered.{Offered}
 use Rattle.session.specs.declared.Taken.the-variants.{Accepted, Refused}
@@ -76,10 +76,6 @@ opening-forgets shape s t source form e = (simp e, simp e)
 pub ended-takes-nothing : EndedTakesNothing
 unfolding EndedTakesNothing offered isOpen neverOpened vacant
 ended-takes-nothing v source q t p = refl
-
-pub fresh-open : (v : Voice) (source : ℕ) (form : Form) → formRight form ≡ true → isOpen v (fresh (v .shape) source form) ≡ true
-unfolding isOpen fresh vacant lastRight groupRight
-fresh-open v source form e = simp (e, nothing-is (v .shape))
 
 fresh-placed : (u : Shape) (source : ℕ) (form : Form) (a : Arrival) → placed u (fresh u source form) a ≡ begins u (fresh u source form) a 0
 unfolding placed groupBefore decided placedBy fresh vacant

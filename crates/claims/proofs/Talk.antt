@@ -40,6 +40,7 @@ use Rattle.session.proofs.SessionLaws.{one-held, one-poured, is-refused}
 use Rattle.capture.specs.Capture.{Heard}
 use Rattle.capture.specs.Run.{Step, andThen, captureForm, firstSession, pouredOf, pouring, isTwelve, runOf, wholeRun, entriesRecorded, captureRecording}
 use Rattle.capture.proofs.RunLaws.{run-append}
+use Rattle.session.proofs.Ends.{ended-open}
 use Rattle.claims.specs.Joinings.{HasRoom}
 use Rattle.claims.specs.Sessions.{lostBefore}
 use Rattle.claims.specs.Offering.{Sent, sentNumbers, numbered, stamped, offerOne, offerAll, Ready, Within, among, HoldsExactly}
@@ -48,7 +49,6 @@ use Rattle.claims.specs.Captures.{heardOf}
 use Rattle.claims.specs.Pauses.{Spoken, spokenPacket, heardWhole, Later, Follows, InTurn, spokenFrom, Each, SentAs, TalkIsRecorded}
 use Rattle.claims.proofs.Offering.{offers-deliver, offer-read, arrives-with, reported-is, some-held, places-of, pours}
 use Rattle.claims.proofs.Missing.{each-place}
-use Rattle.claims.proofs.TwoBoxes.{ended-open}
 use Rattle.claims.proofs.Captures.{Leaves, group-after, accepted-as, fresh-taken}
 use Rattle.claims.proofs.CapturesRead.{silent, silent-entries}
 

@@ -5,7 +5,6 @@ use mathlib.Core.List.{List}
 use mathlib.Core.Path.{_≡_, refl, sym, ap, _∙_}
 use lib.Dec.{eqb, leb}
 use lib.ListN.{length}
-use borrow.Author.Tests.{le-leb}
 use Rattle.octets.proofs.Logic.{apart}
 use Rattle.frame.specs.Shape.{Shape, Voice}
 use Rattle.answers.specs.Outputs.{octets, refusedOutput, writtenOf}
@@ -24,12 +23,12 @@ use Rattle.holding.proofs.GroupLaws.{sound-has, holds-sound, sound-something, n
 use Rattle.holding.specs.declared.Holding.{Holding}
 use Rattle.holding.specs.declared.Lost.the-variants as lost
 use Rattle.pouring.specs.Pouring.{inTime, poured}
-use Rattle.session.specs.Session.{lastRight, groupRight, isOpen, refuse, accept, lastNumbers, groupBefore, begins, placedBy}
+use Rattle.session.specs.Session.{isOpen, refuse, accept, lastNumbers, groupBefore, begins, placedBy}
 use Rattle.session.specs.Session.{placed, arrival, judged, received, offered, pourMade, ended, afterPour, notDropped, dropped}
 use Rattle.session.specs.declared.Arrival.{Arrival}
 use Rattle.session.specs.declared.Dropped.{Dropped}
 use Rattle.session.specs.declared.Session.{Session}
-use Rattle.session.proofs.Ends.{open-has, group-has}
+use Rattle.session.proofs.Ends.{open-has, group-has, ended-open}
 use Rattle.claims.specs.TwoBoxes.{answerOf, asPoured, Alike, PourAndDropAlike, takenAs, LostBetweenIsReported}
 
 -- a holding that holds a packet is not that of nothing
@@ -81,14 +80,6 @@ pour-and-drop-alike v s = go (both v s)
         }
 
 -- ---- what was lost between two groups
-
--- after its group is ended, a session is open
-pub ended-open : (v : Voice) (s : Session) → isOpen v s ≡ true → holds v (s .group) ≡ true → isOpen v (ended (v .shape) s) ≡ true
-unfolding isOpen ended lastRight groupRight
-ended-open v s o h =
-    let x = open-has v s o in
-    let y = sound-has v (s .group) (holds-sound v (s .group) h .0) in
-    simp (x .opened, x .form, le-leb _ _ (y .low), le-leb _ _ (y .some), le-leb _ _ (y .few), nothing-is (v .shape))
 
 -- a packet then comes after the poured group
 module _ (u : Shape) (s : Session) (a : Arrival) where

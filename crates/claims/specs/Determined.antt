@@ -133,3 +133,13 @@ pub record Determined : Type 0 where
   pub refusalPlace : Fixed answers.refusalPlace
   pub captureAnswer : Fixed capture.answer
   pub lvCaptureAnswer : Fixed landing.lvCaptureAnswer
+  pub payloadLayFrames : Fixed payload.layFrames
+  pub pouringPourSize : Fixed pouring.pourSize
+  pub pouringPourRows : Fixed pouring.pourRows
+  pub pouringPourHeld : Fixed pouring.pourHeld
+  pub sessionDecide : Fixed session.decide
+  pub sessionBeginGroup : Fixed session.beginGroup
+  pub sessionHoldPacket : Fixed session.holdPacket
+  pub sessionTake : Fixed session.take
+  pub sessionEndGroup : Fixed session.endGroup
+  pub sessionFresh : Fixed session.fresh

@@ -77,11 +77,13 @@ pub record RattleDemand1 : Type 0 where
   pub packetWriteAgreed : KeptLent packet.writeAgreed RefusedWriting
   pub packetWriteHeaderFree : KeptLent packet.writeHeaderFree RefusedWriting
   pub pouringPour : KeptLent pouring.pour RefusedWriting
+  pub pouringPourHeld : KeptLent pouring.pourHeld RefusedWriting
   pub captureRecord : KeptLent capture.record RefusedCapture
   pub joiningJoin : Kept joining.join (λ x. RefusedAnswer (x .answer)) (λ g x. x .holding ≡ nothing holdingShape)
   pub sessionOpen : Kept session.«open» (λ x. RefusedAnswer (x .answer)) (λ g x. x .session ≡ g .0)
   pub sessionOpenAgreed : Kept session.openAgreed (λ x. RefusedAnswer (x .answer)) (λ g x. x .session ≡ g .0)
   pub sessionOffer : Kept session.offer (λ x. RefusedOffer (x .answer)) (λ g x. x .session ≡ g .0)
+  pub sessionTake : Kept session.take (λ x. RefusedOffer (x .answer)) (λ g x. x .standing ≡ g .0)
   pub sessionPour : Kept session.pour (λ x. RefusedWriting (x .answer)) (λ g x. x .session ≡ g)
   pub sessionDropGroup : Kept session.dropGroup (λ x. RefusedAnswer (x .answer)) (λ g x. x .session ≡ g)
   pub sessionCopyOut : Kept session.copyOut (λ x. RefusedAnswer (x .answer)) (λ g x. x .holding ≡ nothing holdingShape)

@@ -79,7 +79,7 @@ entries-laid kind ok p head (f ∷ fs) e =
     )
 
 -- past the entries of the first i frames stand those of the others
-walks :
+pub walks :
     (kind : Kind) (ok : Frame → Bool) (p : List ℕ) (h : ℕ) (fs : List Frame) (i : ℕ) →
     i ≤ length fs →
     entriesAt kind ok p h ≡ frames fs →

@@ -1,6 +1,6 @@
 -- Laws of a holding that the functions' proofs cite. Assumes nothing.
 use Prim.Native.Nat.{ℕ, _+_, _-_, _*_, _≤_, _<_}
-use mathlib.Core.Bool.{Bool, true, false, _&&_}
+use mathlib.Core.Bool.{Bool, true, false, _&&_, not}
 use mathlib.Core.Path.{_≡_, refl, sym, ap, _∙_}
 use mathlib.Core.List.{List}
 use native.Mathlib.Omega.{arith}
@@ -9,8 +9,8 @@ use lib.ListN.{getD, replicate}
 use lib.Dec.{eqb, leb}
 use borrow.Author.Tests.{eq-eqb, ne-eqb, le-leb, lt-leb, leb-true}
 use Rattle.octets.specs.Octets.{allZero, anySet, sameOctets, allBelow}
-use Rattle.octets.proofs.Logic.{both-true, both-false}
-use Rattle.octets.proofs.OctetsLaws.{same-refl, zero-list, none-set}
+use Rattle.octets.proofs.Logic.{apart, both-true, both-false}
+use Rattle.octets.proofs.OctetsLaws.{same-refl, same-true, zero-list, none-set}
 use Rattle.frame.specs.FrameTable.{erasure}
 use Rattle.frame.specs.Shape.{Shape, Voice, packetsOf, roomOf, shapeOf}
 use Rattle.bundle.specs.Bundles.{bundleIn, notHeld, sameBundles, framesRight}
@@ -118,6 +118,21 @@ unfolding isNothing nothing begun bare
 nothing-is v =
     rw (none-set (packetsOf v), same-refl (replicate (10 * packetsOf v) erasure), zero-list (roomOf v * packetsOf v))
 
+-- and has no frame
+and-last : (a b c d e f : Bool) → a && (b && (c && (d && (e && f)))) ≡ true → f ≡ true
+and-last false b c d e f h = apart (cc)
+and-last true false c d e f h = apart (cc)
+and-last true true false d e f h = apart (cc)
+and-last true true true false e f h = apart (cc)
+and-last true true true true e f h = both-true e f h .1
+
+pub nothing-has : (u : Shape) (h : Holding) → isNothing u h ≡ true → (h .marks ≡ nothing u .marks) × (allZero (h .room) ≡ true)
+unfolding isNothing bare
+nothing-has u h e =
+    let f = and-last (eqb (h .source) 0) (eqb (h .sequence) 0) (eqb (h .timestamp) 0) (eqb (h .l) 0) (eqb (h .b) 0) (bare u h) e in
+    let g = both-true (sameOctets (h .marks) (nothing u .marks)) (allZero (h .room)) (both-true (not (anySet (h .held))) _ f .1) in
+    (same-true _ _ (g .0), g .1)
+
 pub nothing-held : (v : Voice) (u : Shape) → holds v (nothing u) ≡ false
 unfolding holds nothing begun
 nothing-held v u = rw (none-set (packetsOf u)) (both-false (sound v (nothing u)))
@@ -130,11 +145,21 @@ and-false true true false d e f h = refl
 and-false true true true false e f h = refl
 and-false true true true true e f h = rw h
 
-pub sound-something : (v : Voice) (h : Holding) → Sound v h → isNothing (v .shape) h ≡ false
+pub some-frames : (u : Shape) (h : Holding) → (h .b ≡ 0 → ⊥) → isNothing u h ≡ false
 unfolding isNothing
-sound-something v h s =
-    let b : h .b ≡ 0 → ⊥ = λ (e : h .b ≡ 0). absurd (omega (arith, s .some)) in
-    and-false (eqb (h .source) 0) (eqb (h .sequence) 0) (eqb (h .timestamp) 0) (eqb (h .l) 0) (eqb (h .b) 0) (bare (v .shape) h) (ne-eqb (h .b) 0 b)
+some-frames u h b =
+    and-false (eqb (h .source) 0) (eqb (h .sequence) 0) (eqb (h .timestamp) 0) (eqb (h .l) 0) (eqb (h .b) 0) (bare u h) (ne-eqb (h .b) 0 b)
+
+pub sound-something : (v : Voice) (h : Holding) → Sound v h → isNothing (v .shape) h ≡ false
+sound-something v h s = some-frames (v .shape) h (λ (e : h .b ≡ 0). absurd (omega (arith, s .some)))
+
+-- and of one with no frame no packet is held
+pub no-frame : (v : Voice) (h : Holding) → h .b ≡ 0 → holds v h ≡ false
+no-frame v h z = go (holds v h) refl
+  where
+    go : (x : Bool) → holds v h ≡ x → x ≡ false
+    go false e = refl
+    go true e = absurd (omega (arith, sound-has v h (holds-sound v h e .0) .some))
 
 -- ---- a holding of nothing, test by test
 module _ (v : Shape) (h : Holding) where

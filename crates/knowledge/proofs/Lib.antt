@@ -3,3 +3,4 @@ pub mod PacketLaws
 pub mod JoinLaws
 pub mod KnowledgeLaws
 pub mod PutLaws
+pub mod PouredLaws

@@ -2,7 +2,7 @@
 -- So what is known decides what is there. Assumes nothing.
 use Prim.Native.Nat.{ℕ, zero, suc, _+_, _-_, _*_, _≤_, _<_}
 use mathlib.Core.Bool.{Bool, true, false, _&&_, _||_}
-use mathlib.Core.Path.{_≡_, refl, sym, ap, ap₂, _∙_}
+use mathlib.Core.Path.{_≡_, refl, sym, ap, _∙_}
 use mathlib.Core.List.{List, [], _∷_, _++_, append-assoc}
 use native.Mathlib.Omega.{arith}
 use native.Mathlib.Nat.{mul-zero, mul-suc, mul-le-mul-left}
@@ -12,7 +12,7 @@ use lib.Dec.{T, eqb, ltb}
 use borrow.Author.Tests.{eqb-true, ltb-true, ltb-false, lt-ltb, le-ltb}
 use Rattle.octets.specs.Octets.{allZero, sameOctets, region}
 use Rattle.octets.proofs.Logic.{apart, both-true}
-use Rattle.octets.proofs.OctetsLaws.{same-refl, same-true, zero-list}
+use Rattle.octets.proofs.OctetsLaws.{zeros-are, same-refl, same-true, zero-list}
 use Rattle.frame.specs.FrameTable.{Frame, known, size, within, erasure, erases, typesOf, Listed, AllListed}
 use Rattle.frame.specs.Shape.{Shape, Voice, roomOf}
 use Rattle.frame.specs.Places.{frameAt, noFrame, upTo}
@@ -52,14 +52,6 @@ filled-past n x xs k h l =
     let ys = replicate (n - length xs) x in
     let e : length xs + (k - length xs) ≡ k = omega arith in
     ap (λ (i : ℕ). getD (xs ++ ys) i 0) (sym e) ∙ getD-append-add xs ys (k - length xs) 0 ∙ getD-replicate (n - length xs) (k - length xs) x 0 (omega arith)
-
--- zeros are all there is
-zeros-are : (xs : List ℕ) → allZero xs ≡ true → xs ≡ replicate (length xs) 0
-unfolding allZero
-zeros-are [] e = refl
-zeros-are (x ∷ xs) e =
-    let p = both-true (eqb x 0) (allZero xs) e in
-    ap₂ (λ (y : ℕ) (ys : List ℕ). y ∷ ys) (eqb-true x 0 (p .0)) (zeros-are xs (p .1))
 
 zeros-tail : (n : ℕ) (l : List ℕ) → allZero l ≡ true → allZero (drop n l) ≡ true
 unfolding allZero

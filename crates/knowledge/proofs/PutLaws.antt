@@ -170,7 +170,7 @@ module _ (v : Voice) (source : ℕ) (g : GroupNumbers) where
   unfolding rightIn heldAt packetRight
   begun-right m k = rw (begun-lost m k, begun-erased m k) (packets-refl (notHeld (v .shape)))
 
-  begun-shaped : Shaped (v .shape) none
+  pub begun-shaped : Shaped (v .shape) none
   unfolding begun
   begun-shaped =
       record {

@@ -7,11 +7,11 @@ use native.Mathlib.Nat.{zero-add}
 use native.Mathlib.Numerals.{add-one}
 use native.Mathlib.Omega.{arith}
 use lib.Dec.{eqb}
-use lib.ListN.{length, take, drop, getD, set, replicate, length-map, length-replicate, length-take, length-drop, drop-of-length-le}
+use lib.ListN.{length, take, drop, getD, set, replicate, length-map, length-replicate, length-take, length-drop}
 use lib.Seq.{paste, paste-suc, take-all, getD-take, getD-drop}
 use borrow.Author.Tests.{le-leb, lt-leb, eq-eqb, ne-eqb}
 use Rattle.octets.specs.Octets.{over, shifted, sameOctets, twoAt, fourAt, twoOctets, fourOctets}
-use Rattle.octets.proofs.OctetsLaws.{over-append, changed-at, set-three, part-is, length-two, length-four}
+use Rattle.octets.proofs.OctetsLaws.{over-append, over-whole, changed-at, set-three, part-is, length-two, length-four}
 use Rattle.form.specs.declared.Limits.{Limits}
 use Rattle.form.specs.declared.Form.{Form}
 use Rattle.form.specs.declared.Form.the-variants.{HeaderFree, Interleaved}
@@ -62,13 +62,6 @@ flags-all o at i flags e h p q =
     e ∙ ap (λ (j : ℕ). paste (replicate 8 false) 0 w j) n ∙ append-nil (take 8 w) ∙ take-all 8 w (omega (arith, length-map (take 8 (drop at o)) isSet))
 
 -- ---- a whole array written over, by a part of the lent octets
-over-whole : (d w : List ℕ) → length d ≡ length w → over d 0 w ≡ w
-unfolding over
-over-whole d w e =
-    let k : length d ≤ 0 + length w = omega arith in
-    let z : drop (0 + length w) d ≡ [] = drop-of-length-le d k in
-    rw z (append-nil w)
-
 pub whole-part : (o r d : List ℕ) (at n : ℕ) → length d ≡ n → at + n ≤ length o → r ≡ over d 0 (take (at + n - at) (drop at o)) → r ≡ take n (drop at o)
 whole-part o r d at n e h q =
     let l : length (take n (drop at o)) ≡ n = simp (length-take, length-drop) (omega arith) in

@@ -23,6 +23,18 @@ pub both-false : (t : Bool) → t && false ≡ false
 both-false true = refl
 both-false false = refl
 
+-- one that is true leaves it to the other
+pub both-so : (t : Bool) → t && true ≡ t
+both-so true = refl
+both-so false = refl
+
+-- two tests before a third may change places
+pub both-swap : (s t u : Bool) → s && (t && u) ≡ (t && s) && u
+both-swap true true u = refl
+both-swap true false u = refl
+both-swap false true u = refl
+both-swap false false u = refl
+
 pub hold-true : (t : Bool) → T t → t ≡ true
 hold-true true h = refl
 hold-true false h = absurd h

@@ -3,15 +3,16 @@ use Prim.Native.Nat.{ℕ, zero, suc, _+_, _-_, _*_, _/_, _%_, _≤_, _<_}
 use mathlib.Core.Bool.{Bool, true, false, _&&_}
 use mathlib.Core.Path.{_≡_, refl, sym, ap, ap₂, _∙_}
 use mathlib.Core.List.{List, [], _∷_, _++_, map, append-assoc, append-nil}
-use native.Mathlib.Nat.{add-zero, sub-zero, zero-sub, add-sub-cancel-left}
+use native.Mathlib.Nat.{le-refl, add-zero, zero-add, sub-zero, zero-sub, add-sub-cancel-left}
 use native.Mathlib.Numerals.{add-one}
 use native.Mathlib.Omega.{arith}
 use lib.ListN.{length-map, take-append-drop, length-take, length-drop, length-append, length-set, length-replicate, getD-replicate, length, take, drop, getD, set, replicate, drop-of-length-le}
 use lib.Seq.{getD-take, getD-drop, take-nil, take-at, drop-at, take-append-le, take-take, drop-append-add, drop-drop, drop-cons, length-take-le, paste, paste-suc, take-all}
 use lib.Dec.{eqb}
-use borrow.Author.Tests.{eq-eqb, ne-eqb, eqb-true}
+use borrow.Author.Tests.{eq-eqb, eqb-true}
+use borrow.Rule.Slice.PartMut.{putMid, postOf, post-is}
 use Rattle.octets.specs.Octets.{over, sameOctets, allZero, anySet, twoAt, fourAt, twoOctets, fourOctets}
-use Rattle.octets.proofs.Logic.{apart, both-true, both-false}
+use Rattle.octets.proofs.Logic.{apart, both-true, both-false, both-so, both-swap}
 
 -- ---- sameOctets
 
@@ -38,42 +39,38 @@ same-long [] (y ∷ ys) h = refl
 same-long (x ∷ xs) [] h = refl
 same-long (x ∷ xs) (y ∷ ys) h = rw (same-long xs ys (λ e. h (ap suc e))) (both-false (eqb x y))
 
--- a loop over both, at i: what is left decides; an equal pair leaves it to the rest; a pair that differs decides; at the end they are the same
-module _ (a b : List ℕ) (i : ℕ) (left : sameOctets a b ≡ sameOctets (drop i a) (drop i b)) where
-  same-step : i < length a → i < length b → sameOctets a b ≡ (eqb (getD a i 0) (getD b i 0) && sameOctets (drop (i + 1) a) (drop (i + 1) b))
+-- a loop over both, at i: what was found so far and what is left decide; a pair is found the same or not; at the end what was found decides
+module _ (a b : List ℕ) (i : ℕ) (so-far : Bool) (left : sameOctets a b ≡ so-far && sameOctets (drop i a) (drop i b)) where
+  pub same-again : i < length a → i < length b → sameOctets a b ≡ (eqb (getD a i 0) (getD b i 0) && so-far) && sameOctets (drop (i + 1) a) (drop (i + 1) b)
   unfolding sameOctets
-  same-step ha hb = left ∙ rw (add-one, drop-cons a i 0, drop-cons b i 0)
+  same-again ha hb = left ∙ rw (add-one, drop-cons a i 0, drop-cons b i 0) (both-swap so-far (eqb (getD a i 0) (getD b i 0)) _)
 
-  pub same-again : i < length a → i < length b → getD a i 0 ≡ getD b i 0 → sameOctets a b ≡ sameOctets (drop (i + 1) a) (drop (i + 1) b)
-  same-again ha hb e = same-step ha hb ∙ simp (eq-eqb _ _ e)
-
-  pub same-differ : i < length a → i < length b → (getD a i 0 ≡ getD b i 0 → ⊥) → false ≡ sameOctets a b
-  same-differ ha hb e = sym (same-step ha hb ∙ simp (ne-eqb _ _ e))
-
-  pub same-end : length a ≡ length b → length a ≤ i → true ≡ sameOctets a b
+  pub same-end : length a ≡ length b → length a ≤ i → so-far ≡ sameOctets a b
   unfolding sameOctets
   same-end e h =
       let p : drop i a ≡ [] = drop-of-length-le a h in
       let k : length b ≤ i = omega arith in
       let q : drop i b ≡ [] = drop-of-length-le b k in
-      sym (left ∙ simp (p, q))
+      sym (left ∙ simp (p, q, both-so))
 
 -- ---- allZero
 
-module _ (s : List ℕ) (i : ℕ) (left : allZero s ≡ allZero (drop i s)) where
-  zero-step : i < length s → allZero s ≡ (eqb (getD s i 0) 0 && allZero (drop (i + 1) s))
+module _ (s : List ℕ) (i : ℕ) (so-far : Bool) (left : allZero s ≡ so-far && allZero (drop i s)) where
+  pub zero-again : i < length s → allZero s ≡ (eqb (getD s i 0) 0 && so-far) && allZero (drop (i + 1) s)
   unfolding allZero
-  zero-step h = left ∙ rw (add-one, drop-cons s i 0)
+  zero-again h = left ∙ rw (add-one, drop-cons s i 0) (both-swap so-far (eqb (getD s i 0) 0) _)
 
-  pub zero-again : i < length s → getD s i 0 ≡ 0 → allZero s ≡ allZero (drop (i + 1) s)
-  zero-again h e = zero-step h ∙ simp (eq-eqb _ _ e)
-
-  pub zero-differ : i < length s → (getD s i 0 ≡ 0 → ⊥) → false ≡ allZero s
-  zero-differ h e = sym (zero-step h ∙ simp (ne-eqb _ _ e))
-
-  pub zero-end : length s ≤ i → true ≡ allZero s
+  pub zero-end : length s ≤ i → so-far ≡ allZero s
   unfolding allZero
-  zero-end h = let p : drop i s ≡ [] = drop-of-length-le s h in sym (left ∙ simp p)
+  zero-end h = let p : drop i s ≡ [] = drop-of-length-le s h in sym (left ∙ simp (p, both-so))
+
+-- zeros are all there is
+pub zeros-are : (xs : List ℕ) → allZero xs ≡ true → xs ≡ replicate (length xs) 0
+unfolding allZero
+zeros-are [] e = refl
+zeros-are (x ∷ xs) e =
+    let p = both-true (eqb x 0) (allZero xs) e in
+    ap₂ (λ (y : ℕ) (ys : List ℕ). y ∷ ys) (eqb-true x 0 (p .0)) (zeros-are xs (p .1))
 
 pub zero-list : (n : ℕ) → allZero (replicate n 0) ≡ true
 unfolding allZero
@@ -218,6 +215,34 @@ module _ (xs : List ℕ) (at : ℕ) (p : List ℕ) (fits : at + length p ≤ len
       ∙ drop-drop d (at + length p) xs
       ∙ ap (λ (i : ℕ). drop i xs) f)
 
+-- k octets from `at` on, lent as a part and given back as s, are written over
+pub put-over : (d s : List ℕ) (at k : ℕ) → length s ≡ k → putMid at (at + k - at) d s ≡ over d at s
+unfolding over
+put-over d s at k e =
+    let z : drop (at + k) d ≡ drop (at + length s) d = ap (λ (n : ℕ). drop (at + n) d) (sym e) in
+    ap (λ (l : List ℕ). take at d ++ (s ++ l)) (post-is at (at + k) d (omega arith) ∙ z) ∙ sym (append-assoc (take at d) s (drop (at + length s) d))
+
+-- ---- a part that goes to the end, `&s[n..]`
+pub to-the-end : (p : List ℕ) (n : ℕ) → take (length p - n) (drop n p) ≡ drop n p
+to-the-end p n = take-all (length p - n) (drop n p) (omega (arith, length-drop n p))
+
+-- the octets from `at` on, lent as a part and given back with w written over their front, are written over
+pub put-tail : (d s w : List ℕ) (at : ℕ) → at ≤ length d → s ≡ over (take (length d - at) (drop at d)) 0 w → putMid at (length d - at) d s ≡ over d at w
+unfolding over
+put-tail d s w at h e =
+    let q : drop (0 + length w) (drop at d) ≡ drop (at + length w) d = ap (λ (n : ℕ). drop n (drop at d)) (zero-add (length w)) ∙ drop-drop (length w) at d in
+    let t : s ≡ w ++ drop (at + length w) d = e ∙ rw (to-the-end d at, q) in
+    let z : postOf at (length d - at) d ≡ [] = post-is at (length d) d h ∙ drop-of-length-le d (le-refl (length d)) in
+    ap (λ (l : List ℕ). take at d ++ (s ++ l)) z ∙ ap (λ (l : List ℕ). take at d ++ l) (append-nil s ∙ t) ∙ sym (append-assoc (take at d) w (drop (at + length w) d))
+
+-- the whole of d written over
+pub over-whole : (d w : List ℕ) → length d ≡ length w → over d 0 w ≡ w
+unfolding over
+over-whole d w e =
+    let k : length d ≤ 0 + length w = omega arith in
+    let z : drop (0 + length w) d ≡ [] = drop-of-length-le d k in
+    rw z (append-nil w)
+
 -- nothing written over changes nothing
 pub over-nothing : (d : List ℕ) (at : ℕ) → d ≡ over d at []
 unfolding over
@@ -254,10 +279,6 @@ put-two-is d at x h = set-two d at (x / 256) (x % 256) h
 pub put-four-is : (d e f : List ℕ) (at x : ℕ) → at + 4 ≤ length d → e ≡ over d at (twoOctets (x / 65536)) → f ≡ over e (at + 2) (twoOctets (x % 65536)) → f ≡ over d at (fourOctets x)
 unfolding twoOctets fourOctets
 put-four-is d e f at x h p q = q ∙ ap (λ (l : List ℕ). over l (at + 2) (twoOctets (x % 65536))) p ∙ over-append d at (twoOctets (x / 65536)) (twoOctets (x % 65536)) (omega arith)
-
--- ---- a part that goes to the end, `&s[n..]`
-pub to-the-end : (p : List ℕ) (n : ℕ) → take (length p - n) (drop n p) ≡ drop n p
-to-the-end p n = take-all (length p - n) (drop n p) (omega (arith, length-drop n p))
 
 -- ---- numbers
 pub two-is : (s : List ℕ) (at : ℕ) → getD s at 0 * 256 + getD s (at + 1) 0 ≡ twoAt s at

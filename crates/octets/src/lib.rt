@@ -1,8 +1,10 @@
 // Octets in slices: copied, filled, compared, tested for zero, read and written as numbers; flags, tested for one that is set.
 ghost use mathlib.Core.Path.{_≡_};
+ghost use mathlib.Core.Bool.{_&&_};
 ghost use mathlib.Core.List.{map};
 ghost use Prim.Native.Nat.{_+_, _*_, _≤_};
 ghost use lib.ListN.{length, replicate};
+ghost use lib.Dec.{eqb};
 ghost use Rattle.octets.specs.Octets.{over, sameOctets, allZero, anySet, shifted, twoAt, fourAt, twoOctets, fourOctets};
 
 // internal: a caller has tested the room before the first octet is written.
@@ -44,35 +46,43 @@ pub fn copy_shifted(dst: &mut [u8], at: usize, src: &[u8], by: u8)
     }
 }
 
-// Whether a and b are the same octets, and as many.
+// Whether it held so far, and two octets are the same.
+fn still(so_far: bool, x: u8, y: u8) -> bool
+    ensures { λ r. ⌜ r ≡ eqb x y && «so_far» ⌝ }
+{
+    if x == y {
+        return so_far;
+    }
+    false
+}
+
+// Whether a and b are the same octets, and as many. It goes to the end whatever it meets: so it is done many octets at a time.
 pub fn same(a: &[u8], b: &[u8]) -> bool
     ensures { λ r. ⌜ r ≡ sameOctets (now (a .entry)) (now (b .entry)) ⌝ }
 {
     if a.len() != b.len() {
         return false;
     }
+    let mut alike = true;
     let mut i = 0;
     while i < a.len() {
-        if a[i] != b[i] {
-            return false;
-        }
+        alike = still(alike, a[i], b[i]);
         i += 1;
     }
-    true
+    alike
 }
 
-// Whether every octet of s is zero.
+// Whether every octet of s is zero, to the end likewise.
 pub fn zeros(s: &[u8]) -> bool
     ensures { λ r. ⌜ r ≡ allZero (now (s .entry)) ⌝ }
 {
+    let mut clear = true;
     let mut i = 0;
     while i < s.len() {
-        if s[i] != 0 {
-            return false;
-        }
+        clear = still(clear, s[i], 0);
         i += 1;
     }
-    true
+    clear
 }
 
 // Whether some flag of s is set.

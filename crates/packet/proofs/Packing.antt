@@ -12,10 +12,11 @@ use lib.Seq.{paste}
 use lib.Dec.{ltb}
 use borrow.Author.Tests.{ltb-true, ltb-false}
 use Rattle.octets.specs.Octets.{over}
-use Rattle.octets.proofs.OctetsLaws.{copy-more, set-over, over-append}
+use Rattle.octets.proofs.OctetsLaws.{copy-more, copy-all, set-over, over-append}
 use Rattle.frame.specs.FrameTable.{Frame, typesOf, Every}
+use Rattle.frame.specs.Entry.{typeOf}
 use Rattle.frame.specs.Places.{frameAt, noFrame, upTo}
-use Rattle.frame.proofs.PlacesLaws.{length-upTo, upTo-at, types-at, length-types, every-at, every-upTo}
+use Rattle.frame.proofs.PlacesLaws.{length-upTo, upTo-at, length-types, every-at, every-upTo}
 use Rattle.packet.specs.Packet.{placeOf, packetFrames, bodiesOf, tocOf, packed}
 use Rattle.packet.proofs.Numbering.{place-in}
 
@@ -82,34 +83,45 @@ bodies-within l n k (suc b) fs h = ⊎-elim (λ (q : k < suc b). less (bodies-wi
         let c = length-append (bodiesOf (packetFrames l n b fs)) (bodiesOf (frameAt fs (placeOf l n b) ∷ [])) in
         omega (arith, ap length a)
 
--- the table of contents of packet N, an entry at a time
-module _ (l n b d : ℕ) (fs : List Frame) where
-  pub length-table : length (tocOf d (typesOf (packetFrames l n b fs))) ≡ b
-  length-table = length-toc d (typesOf (packetFrames l n b fs)) ∙ length-types (packetFrames l n b fs) ∙ length-packet l n b fs
+-- the types of the entries that stand at b places
+unfoldable pub typesAt : List ℕ → List ℕ → ℕ → List ℕ
+typesAt es places b = upTo (λ k. typeOf (getD es (getD places k 0) 0)) b
 
-  types : length (typesOf (packetFrames l n b fs)) ≡ b
-  types = length-types (packetFrames l n b fs) ∙ length-packet l n b fs
+module _ (es places : List ℕ) (b : ℕ) where
+  pub length-at : length (typesAt es places b) ≡ b
+  unfolding typesAt
+  length-at = length-upTo _ b
 
-  type-of : (k : ℕ) → k < b → getD (typesOf (packetFrames l n b fs)) k 0 ≡ frameAt fs (placeOf l n k) .type
-  type-of k h = types-at (packetFrames l n b fs) k ∙ ap (λ (f : Frame). f .type) (packet-at l n b fs k h)
+  pub type-at : (k : ℕ) → k < b → getD (typesAt es places b) k 0 ≡ typeOf (getD es (getD places k 0) 0)
+  unfolding typesAt
+  type-at k q = upTo-at _ b k 0 q
 
-  pub table-more : (k : ℕ) → k + 1 < b → 128 + d * 64 + frameAt fs (placeOf l n k) .type ≡ getD (tocOf d (typesOf (packetFrames l n b fs))) k 0
-  table-more k h =
-      sym (toc-more d (typesOf (packetFrames l n b fs)) k (omega (arith, types)) ∙ ap (λ (t : ℕ). 128 + d * 64 + t) (type-of k (omega arith)))
+-- their table of contents stored behind octet 0: an entry that another follows, the last, and all
+module _ (d : ℕ) (es places : List ℕ) (b : ℕ) (out₀ : List ℕ) (h : 1 + b ≤ length out₀) (k : ℕ) (out : List ℕ) (e : out ≡ paste out₀ 1 (tocOf d (typesAt es places b)) k) where
+  length-table : length (tocOf d (typesAt es places b)) ≡ b
+  length-table = length-toc d (typesAt es places b) ∙ length-at es places b
 
-  pub table-last : (k : ℕ) → k + 1 ≡ b → d * 64 + frameAt fs (placeOf l n k) .type ≡ getD (tocOf d (typesOf (packetFrames l n b fs))) k 0
-  table-last k h =
-      sym (toc-last d (typesOf (packetFrames l n b fs)) k (h ∙ sym types) ∙ ap (λ (t : ℕ). d * 64 + t) (type-of k (omega arith)))
+  stored : (x : ℕ) → k < b → getD (tocOf d (typesAt es places b)) k 0 ≡ x → set out (k + 1) x ≡ paste out₀ 1 (tocOf d (typesAt es places b)) (k + 1)
+  stored x q y =
+      ap (set out (k + 1)) (sym y) ∙ ap (λ (j : ℕ). set out j (getD (tocOf d (typesAt es places b)) k 0)) (add-comm k 1)
+      ∙ copy-more out₀ 1 (tocOf d (typesAt es places b)) out k e (omega (arith, length-table)) (omega (arith, length-table))
 
--- one entry of a table stored behind octet 0
-pub entry-stored : (d t out : List ℕ) (k x : ℕ) → out ≡ paste d 1 t k → 1 + length t ≤ length d → k < length t → x ≡ getD t k 0 → set out (k + 1) x ≡ paste d 1 t (k + 1)
-entry-stored d t out k x e h q y =
-    ap (set out (k + 1)) y ∙ ap (λ (j : ℕ). set out j (getD t k 0)) (add-comm k 1) ∙ copy-more d 1 t out k e h q
+  pub more-stored : k + 1 < b → set out (k + 1) (128 + d * 64 + typeOf (getD es (getD places k 0) 0)) ≡ paste out₀ 1 (tocOf d (typesAt es places b)) (k + 1)
+  more-stored q = stored _ (omega arith) (toc-more d (typesAt es places b) k (omega (arith, length-at es places b)) ∙ ap (λ (t : ℕ). 128 + d * 64 + t) (type-at es places b k (omega arith)))
+
+  pub last-stored : k + 1 ≡ b → set out (k + 1) (d * 64 + typeOf (getD es (getD places k 0) 0)) ≡ paste out₀ 1 (tocOf d (typesAt es places b)) (k + 1)
+  last-stored q = stored _ (omega arith) (toc-last d (typesAt es places b) k (q ∙ sym (length-at es places b)) ∙ ap (λ (t : ℕ). d * 64 + t) (type-at es places b k (omega arith)))
+
+  pub all-stored : k ≡ b → out ≡ over out₀ 1 (tocOf d (typesAt es places b))
+  all-stored q = copy-all out₀ 1 (tocOf d (typesAt es places b)) out k e (omega (arith, length-table)) (omega (arith, length-table))
 
 -- the whole packet: its octets, and how it is written, octet 0, then the table of contents, then the bodies
 module _ (l n b d : ℕ) (fs : List Frame) where
+  entries : length (tocOf d (typesOf (packetFrames l n b fs))) ≡ b
+  entries = length-toc d (typesOf (packetFrames l n b fs)) ∙ length-types (packetFrames l n b fs) ∙ length-packet l n b fs
+
   pub length-packed : length (packed l n d (packetFrames l n b fs)) ≡ 1 + b + length (bodiesOf (packetFrames l n b fs))
-  length-packed = omega (arith, length-append (tocOf d (typesOf (packetFrames l n b fs))) (bodiesOf (packetFrames l n b fs)), length-table l n b d fs)
+  length-packed = omega (arith, length-append (tocOf d (typesOf (packetFrames l n b fs))) (bodiesOf (packetFrames l n b fs)), entries)
 
   pub packed-over :
       (out : List ℕ) →
@@ -121,5 +133,5 @@ module _ (l n b d : ℕ) (fs : List Frame) where
       let t = tocOf d (typesOf (packetFrames l n b fs)) in
       let z = bodiesOf (packetFrames l n b fs) in
       let a : over (set out 0 x) 1 t ≡ over out 0 (x ∷ t) = ap (λ (o : List ℕ). over o 1 t) (set-over out 0 x h) ∙ over-append out 0 (x ∷ []) t (omega arith) in
-      let m : 1 + b ≡ 0 + length (x ∷ t) = omega (arith, length-table l n b d fs) in
+      let m : 1 + b ≡ 0 + length (x ∷ t) = omega (arith, entries) in
       ap (λ (o : List ℕ). over o (1 + b) z) a ∙ ap (λ (i : ℕ). over (over out 0 (x ∷ t)) i z) m ∙ over-append out 0 (x ∷ t) z (omega arith)

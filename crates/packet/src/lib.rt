@@ -8,8 +8,8 @@ use form::Limits;
 use form::Opened;
 use frame::Vocoder;
 ghost use mathlib.Core.Path.{_≡_};
-ghost use Prim.Native.Nat.{_+_, _*_, _<_, _≤_};
-ghost use lib.ListN.{length};
+ghost use Prim.Native.Nat.{ℕ, _+_, _*_, _<_, _≤_};
+ghost use lib.ListN.{length, getD};
 ghost use Rattle.answers.specs.Outputs.{Writes};
 ghost use Rattle.entries.specs.Kind.{kindOf};
 ghost use Rattle.entries.specs.Entries.{entriesIn};
@@ -21,25 +21,29 @@ ghost use Rattle.octets.specs.Octets.{over};
 ghost use Rattle.packet.specs.Packet.{placeOf, packetFrames, tocOf, bodiesOf, groupIn, Picked, EntryAt};
 ghost use Rattle.packet.specs.Writing.{packetMade, packetWithin, packetOfGroup, headerFreeMade, oneBody};
 
-// The place of the entry of frame k of packet n.
-fn entry_of(vocoder: Vocoder, l: usize, n: usize, b: usize, k: usize, entries: &[u8]) -> usize
-    requires { ⌜ Picked (kindOf vocoder) l n b (now entries) × (k < b) ⌝ }
-    ensures { λ r. ⌜ EntryAt (kindOf vocoder) (now (entries .entry)) r (frameAt (groupIn (kindOf vocoder) (now (entries .entry))) (placeOf l n k)) ⌝ }
-{
-    let place = k * (l + 1) + n;
-    entries::seek(vocoder, entries, place)
-}
-
-// The octets of the bodies of packet n's first b frames.
-fn bodies_size(vocoder: Vocoder, l: usize, n: usize, b: usize, entries: &[u8]) -> usize
-    requires { ⌜ Picked (kindOf vocoder) l n b (now entries) ⌝ }
+// Goes along the entries once: the octets of the bodies of packet n's first b frames, and the place of each one's entry.
+fn pick(
+    vocoder: Vocoder,
+    l: usize,
+    n: usize,
+    b: usize,
+    entries: &[u8],
+    places: &mut [usize],
+) -> usize
+    requires { ⌜ Picked (kindOf vocoder) l n b (now entries) × (b ≤ length (now places)) ⌝ }
     ensures { λ r. ⌜ (r ≡ length (bodiesOf (packetFrames l n b (groupIn (kindOf vocoder) (now (entries .entry)))))) × (r ≤ 255 * b) ⌝ }
+    ensures { λ _. ⌜ ((k : ℕ) → k < b
+        → EntryAt (kindOf vocoder) (now (entries .entry)) (getD (now (places .exit)) k 0) (frameAt (groupIn (kindOf vocoder) (now (entries .entry))) (placeOf l n k))) ⌝ }
 {
+    let mut at: usize = 0;
+    let mut skip = n;
     let mut size: usize = 0;
     let mut k: usize = 0;
     while k < b {
-        let at = entry_of(vocoder, l, n, b, k, entries);
+        at = at + entries::seek(vocoder, &entries[at..], skip);
+        places[k] = at;
         size = size + frame::body_size(vocoder, entries[at] % 64);
+        skip = l + 1;
         k = k + 1;
     }
     size
@@ -54,14 +58,16 @@ fn write_table(
     b: usize,
     d: u8,
     entries: &[u8],
+    places: &[usize],
 )
-    requires { ⌜ Picked (kindOf vocoder) l n b (now entries) × (d ≤ 1) × (1 + b ≤ length (now out)) ⌝ }
+    requires { ⌜ (d ≤ 1) × (1 + b ≤ length (now out)) × (b ≤ length (now places)) × ((k : ℕ) → k < b
+        → EntryAt (kindOf vocoder) (now entries) (getD (now places) k 0) (frameAt (groupIn (kindOf vocoder) (now entries)) (placeOf l n k))) ⌝ }
     ensures { λ _. ⌜ now (out .exit)
         ≡ over (now (out .entry)) 1 (tocOf d (typesOf (packetFrames l n b (groupIn (kindOf vocoder) (now (entries .entry)))))) ⌝ }
 {
     let mut k: usize = 0;
     while k < b {
-        let at = entry_of(vocoder, l, n, b, k, entries);
+        let at = places[k];
         let kind = entries[at] % 64;
         let next = k + 1;
         if next < b {
@@ -74,16 +80,25 @@ fn write_table(
 }
 
 // Writes the bodies over out, behind octet 0 and the table of contents.
-fn write_bodies(vocoder: Vocoder, out: &mut [u8], l: usize, n: usize, b: usize, entries: &[u8])
-    requires { ⌜ Picked (kindOf vocoder) l n b (now entries)
-        × (1 + b + length (bodiesOf (packetFrames l n b (groupIn (kindOf vocoder) (now entries)))) ≤ length (now out)) ⌝ }
+fn write_bodies(
+    vocoder: Vocoder,
+    out: &mut [u8],
+    l: usize,
+    n: usize,
+    b: usize,
+    entries: &[u8],
+    places: &[usize],
+)
+    requires { ⌜ (1 + b + length (bodiesOf (packetFrames l n b (groupIn (kindOf vocoder) (now entries)))) ≤ length (now out)) × (b ≤ length (now places))
+        × ((k : ℕ) → k < b
+        → EntryAt (kindOf vocoder) (now entries) (getD (now places) k 0) (frameAt (groupIn (kindOf vocoder) (now entries)) (placeOf l n k))) ⌝ }
     ensures { λ _. ⌜ now (out .exit)
         ≡ over (now (out .entry)) (1 + b) (bodiesOf (packetFrames l n b (groupIn (kindOf vocoder) (now (entries .entry))))) ⌝ }
 {
     let mut to = 1 + b;
     let mut k: usize = 0;
     while k < b {
-        let at = entry_of(vocoder, l, n, b, k, entries);
+        let at = places[k];
         let start = at + 1;
         let end = start + frame::body_size(vocoder, entries[at] % 64);
         octets::copy(out, to, &entries[start..end]);
@@ -115,13 +130,14 @@ fn write_group(
             if count != (step + 1) * bundle {
                 return Written::Refused(Refusal::NotSendable);
             }
-            let size = 1 + bundle + bodies_size(vocoder, step, index, bundle, entries);
+            let mut places = [0usize; 10];
+            let size = 1 + bundle + pick(vocoder, step, index, bundle, entries, &mut places);
             if out.len() < size {
                 return Written::Refused(Refusal::NoRoom);
             }
             out[0] = l * 8 + n;
-            write_table(vocoder, out, step, index, bundle, d, entries);
-            write_bodies(vocoder, out, step, index, bundle, entries);
+            write_table(vocoder, out, step, index, bundle, d, entries, &places);
+            write_bodies(vocoder, out, step, index, bundle, entries, &places);
             Written::Octets(size)
         }
     }

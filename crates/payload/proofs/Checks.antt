@@ -19,7 +19,7 @@ use Rattle.form.specs.declared.Form.the-variants.{HeaderFree, Interleaved}
 use Rattle.answers.specs.declared.Refusal.{Refusal}
 use Rattle.answers.specs.declared.Refusal.the-variants.{NoOctet, IndexPastLength, LengthPastMaximum, BodiesCut, OctetsLeft}
 use Rattle.answers.specs.declared.Refusal.the-variants.{HeaderFreeLength}
-use Rattle.form.proofs.AgreedLaws.{opened-agreed, opened-refused}
+use Rattle.form.proofs.AgreedLaws.{opened-agreed, opened-refused, range-bounds}
 use Rattle.octets.proofs.Logic.{apart}
 use Rattle.payload.specs.Payload.{Reading, refusedPayload, Toc, contents, fault, toc, total, cut, firstCut, bodies, interleaved, oneBody}
 use Rattle.payload.specs.Payload.{readAs, lOf, nOf}
@@ -81,13 +81,15 @@ module _ (v : FrameTable) (m : Limits) (p : List ℕ) (h : 1 ≤ length p) where
         left : length (yields .rest) ≡ length p - 1 - c
         left = yields .left ∙ ap (λ (n : ℕ). n - c) (length-drop 1 p)
 
-        pub bodies-cut : (at : ℕ) → at ≡ firstCut v (1 + c) (take c (map typeOf (drop 1 p))) (drop (1 + c) p) →
-            length p - 1 - c < s → Refused (BodiesCut at) ≡ contentsOf (interleaved v m p)
+        pub bodies-cut : (at : ℕ)
+            → (length p - 1 - c < total v (take c (map typeOf (drop 1 p))) → at ≡ firstCut v (1 + c) (take c (map typeOf (drop 1 p))) (drop (1 + c) p))
+            → length p - 1 - c < s → Refused (BodiesCut at) ≡ contentsOf (interleaved v m p)
         unfolding bodies contentsOf
         bodies-cut at q k =
             let a : length (yields .rest) < total v (yields .ts) = omega (arith, left, yields .octets) in
             let f : yields .rest ≡ drop (1 + c) p = yields .follow ∙ drop-drop c 1 p in
-            rw (begun, yields .is, lt-ltb _ _ a) (ap (λ (x : ℕ). Refused (BodiesCut x)) (rw (yields .begins, yields .types, f) q))
+            let t : s ≡ total v (take c (map typeOf (drop 1 p))) = yields .octets ∙ ap (total v) (yields .types) in
+            rw (begun, yields .is, lt-ltb _ _ a) (ap (λ (x : ℕ). Refused (BodiesCut x)) (rw (yields .begins, yields .types, f) (q (omega arith))))
 
         pub octets-left : s < length p - 1 - c → Refused (OctetsLeft (1 + c + s)) ≡ contentsOf (interleaved v m p)
         unfolding bodies contentsOf
@@ -111,6 +113,9 @@ not-opened v m p r e = let h = opened-refused m r e in rw (h .0) (ap Refused (h 
 pub is-opened : (v : FrameTable) (m a : Limits) (p : List ℕ) → opened (m .«max_l») (m .«max_b») ≡ limits.Agreed a → contentsOf (interleaved v a p) ≡ contentsOf (readAs v (Interleaved m) p)
 unfolding readAs
 is-opened v m a p e = let h = opened-agreed m a e in rw (h .0) (ap (λ (x : Limits). contentsOf (interleaved v x p)) (h .1))
+
+pub opened-few : (m a : Limits) → opened (m .«max_l») (m .«max_b») ≡ limits.Agreed a → a .«max_b» ≤ 10
+opened-few m a e = let h = opened-agreed m a e in rw (h .1) (range-bounds m (h .0) .2)
 
 -- type 2
 pub no-such-length : (v : FrameTable) (p : List ℕ) → rowOfSize v (length p) ≡ Missing → Refused HeaderFreeLength ≡ contentsOf (readAs v HeaderFree p)

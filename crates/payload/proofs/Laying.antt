@@ -6,12 +6,13 @@ use mathlib.Core.Bool.{Bool, true, false, cond}
 use native.Mathlib.Omega.{arith}
 use native.Mathlib.Nat.{add-zero, zero-add, add-comm, le-of-suc-le-suc}
 use native.Mathlib.Numerals.{add-one, one-add}
-use lib.ListN.{length, take, drop, getD, length-drop, length-map, List·getD-map}
+use lib.ListN.{length, take, drop, getD, length-drop, length-map, length-take, List·getD-map}
 use lib.Seq.{length-take-le, take-take, getD-take, drop-drop, getD-drop, take-all}
-use lib.Dec.{ltb}
+use lib.Dec.{T, ltb}
 use borrow.Author.Tests.{ltb-false}
 use Rattle.octets.proofs.Logic.{apart}
-use Rattle.frame.specs.FrameTable.{FrameTable, Frame, size, rowOfSize}
+use Rattle.octets.proofs.OctetsLaws.{part-is}
+use Rattle.frame.specs.FrameTable.{FrameTable, Frame, size, within, rowOfSize}
 use Rattle.frame.specs.Places.{taken, frameAt, locatedOf}
 use Rattle.form.specs.Agreed.{inRange}
 use Rattle.form.specs.declared.Limits.{Limits}
@@ -23,8 +24,11 @@ use Rattle.form.specs.declared.Form.the-variants.{HeaderFree, Interleaved}
 use Rattle.answers.specs.declared.Refusal.{Refusal}
 use Rattle.answers.specs.declared.Refusal.the-variants.{NotApplicable, HeaderFreeLength}
 use Rattle.frame.specs.declared.Located.the-variants as located
+use Rattle.form.proofs.AgreedLaws.{range-bounds}
 use Rattle.frame.proofs.PlacesLaws.{Laid, LaidIn, asked-refused, asked-past, asked}
 use Rattle.frame.specs.Entry.{typeOf}
+use Rattle.frame.proofs.FrameTableLaws.{size-within}
+use Rattle.bundle.proofs.LaidOutLaws.{Short}
 use Rattle.payload.specs.Payload.{Reading, packet, refusedPayload, Toc, contents, fault, toc, total, cut, bodies, interleaved}
 use Rattle.payload.specs.Payload.{oneBody, readAs, lOf, nOf}
 use Rattle.payload.specs.Shown.{contentsOf, givenOf, givenAs}
@@ -37,6 +41,12 @@ total-suc : (v : FrameTable) (ts : List ℕ) (k : ℕ) → k < length ts → tot
 total-suc v [] k h = absurd (omega arith)
 total-suc v (t ∷ ts) zero h = omega arith
 total-suc v (t ∷ ts) (suc k) h = let i = total-suc v ts k (le-of-suc-le-suc h) in omega arith
+
+total-le : (v : FrameTable) (ts : List ℕ) (j k : ℕ) → j ≤ k → total v (take j ts) ≤ total v (take k ts)
+total-le v ts zero k h = omega arith
+total-le v ts (suc j) zero h = absurd (omega arith)
+total-le v [] (suc j) (suc k) h = omega arith
+total-le v (t ∷ ts) (suc j) (suc k) h = let i = total-le v ts j k (le-of-suc-le-suc h) in omega arith
 
 -- entry i of the table of contents
 pub type-at : (p : List ℕ) (i : ℕ) → getD (map typeOf (drop 1 p)) i 0 ≡ typeOf (getD p (i + 1) 0)
@@ -53,6 +63,19 @@ cut-type : (v : FrameTable) (ts bs : List ℕ) (k : ℕ) → frameAt (cut v ts b
 cut-type v [] bs k = refl
 cut-type v (t ∷ ts) bs zero = refl
 cut-type v (t ∷ ts) bs (suc k) = cut-type v ts (drop (size v t) bs) k
+
+cut-body : (v : FrameTable) (ts bs : List ℕ) (k : ℕ) → k < length ts
+    → frameAt (cut v ts bs) k .body ≡ take (size v (getD ts k 0)) (drop (total v (take k ts)) bs)
+cut-body v [] bs k h = absurd (omega arith)
+cut-body v (t ∷ ts) bs zero h = refl
+cut-body v (t ∷ ts) bs (suc k) h =
+    cut-body v ts (drop (size v t) bs) k (le-of-suc-le-suc h)
+    ∙ ap (take (size v (getD ts k 0))) (drop-drop (total v (take k ts)) (size v t) bs)
+
+cut-short : (v : FrameTable) (z : ℕ) → T (within z v) → (ts bs : List ℕ) → Short z (cut v ts bs)
+cut-short v z w [] bs = tt
+cut-short v z w (t ∷ ts) bs =
+    (omega (arith, size-within z v t w, length-take (size v t) bs), cut-short v z w ts (drop (size v t) bs))
 
 pub cut-size : (v : FrameTable) (ts bs : List ℕ) (k : ℕ) → total v ts ≤ length bs → k < length ts → length (frameAt (cut v ts bs) k .body) ≡ size v (getD ts k 0)
 cut-size v [] bs k h q = absurd (omega arith)
@@ -150,24 +173,27 @@ framed v m p l n d fs e = at-range (inRange m) refl e
     at-range false g k = apart (cc)
 
 -- its frames, of the types in the table of contents, lie one after the other behind that table and fill the payload
-record Filled (v : FrameTable) (p : List ℕ) (fs : List Frame) (ts : List ℕ) : Type 0 where
-  frames : fs ≡ cut v ts (drop (1 + length ts) p)
-  types : ts ≡ take (length ts) (map typeOf (drop 1 p))
-  fills : 1 + length ts + total v ts ≡ length p
-  many : length fs ≡ length ts
+pub record Filled (v : FrameTable) (p : List ℕ) (fs : List Frame) (ts : List ℕ) : Type 0 where
+  pub frames : fs ≡ cut v ts (drop (1 + length ts) p)
+  pub types : ts ≡ take (length ts) (map typeOf (drop 1 p))
+  pub fills : 1 + length ts + total v ts ≡ length p
+  pub many : length fs ≡ length ts
+  pub few : length fs ≤ 10
 
 module _ (v : FrameTable) (m : Limits) (p : List ℕ) (l n d : ℕ) (fs : List Frame) (o : Framed v m p l n d fs) where
-  filled : Filled v p fs (o .ts)
+  pub filled : Filled v p fs (o .ts)
   filled =
       let h = o .whole in
       let r : drop (length (o .ts)) (o .es) ≡ drop (1 + length (o .ts)) (o .head ∷ o .es) = simp one-add in
       let f : fs ≡ cut v (o .ts) (drop (1 + length (o .ts)) p) =
       o .frames ∙ ap (cut v (o .ts)) (h .follow ∙ r ∙ ap (drop (1 + length (o .ts))) (sym (o .split))) in
+      let q = ap length f ∙ length-cut v (o .ts) (drop (1 + length (o .ts)) p) in
       record {
         frames = f;
         types = h .types ∙ ap (λ (q : List ℕ). take (length (o .ts)) (map typeOf (drop 1 q))) (sym (o .split));
         fills = omega (arith, o .full, ap length (o .split), ap length (h .follow), length-drop (length (o .ts)) (o .es), h .within);
-        many = ap length f ∙ length-cut v (o .ts) (drop (1 + length (o .ts)) p);
+        many = q;
+        few = omega (arith, q, h .few, range-bounds m (o .range) .2);
       }
 
   framed-laid : Laid p (1 + length fs) 0 fs
@@ -188,6 +214,7 @@ record Stands (v : FrameTable) (p : List ℕ) (fs : List Frame) (k : ℕ) : Type
   start : taken 0 (take k fs) ≡ before v p k
   octets : length (frameAt fs k .body) ≡ size v (typeIn p k)
   entry : k + 1 < length p
+  inside : 1 + length fs + before v p k ≤ length p
 
 stands : (v : FrameTable) (m : Limits) (p : List ℕ) (l n d : ℕ) (fs : List Frame) (k : ℕ) → Framed v m p l n d fs → k < length fs → Stands v p fs k
 stands v m p l n d fs k o h =
@@ -206,7 +233,55 @@ stands v m p l n d fs k o h =
           ∙ ap (total v) (take-take k (length ts) types (omega arith));
       octets = ap (λ (q : List Frame). length (frameAt q k .body)) (x .frames) ∙ cut-size v ts bs k fit h′ ∙ ap (size v) t;
       entry = omega (arith, x .fills, x .many);
+      inside = omega (arith, x .fills, x .many, total-le v types k (length ts) (omega arith), ap (total v) (x .types));
     }
+
+-- ---- b frames along their entries and their bodies
+module _ (v : FrameTable) (p : List ℕ) (b : ℕ) where
+  abbrev pub framesAlong : List Frame
+  framesAlong = cut v (take b (map typeOf (drop 1 p))) (drop (1 + b) p)
+
+  -- frame k of them, where body k begins at `start`
+  pub record Along (start k : ℕ) : Type 0 where
+    pub entry : k + 1 < length p
+    pub type : typeIn p k ≡ frameAt framesAlong k .type
+    pub body : take (size v (typeIn p k)) (drop start p) ≡ frameAt framesAlong k .body
+    pub inside : start + size v (typeIn p k) ≤ length p
+    pub next : start + size v (typeIn p k) ≡ 1 + b + before v p (k + 1)
+
+  -- its body, as the code cuts it
+  pub piece : (start k z : ℕ) → Along start k → z ≡ size v (typeIn p k) → take (start + z - start) (drop start p) ≡ frameAt framesAlong k .body
+  piece start k z a e = part-is p start z ∙ ap (λ (i : ℕ). take i (drop start p)) e ∙ a .body
+
+  module _ (fits : 1 + b + total v (take b (map typeOf (drop 1 p))) ≤ length p) where
+    types-long : length (take b (map typeOf (drop 1 p))) ≡ b
+    types-long = length-take-le b (map typeOf (drop 1 p)) (omega (arith, length-map (drop 1 p) typeOf, length-drop 1 p))
+
+    pub many-along : length framesAlong ≡ b
+    many-along = length-cut v (take b (map typeOf (drop 1 p))) (drop (1 + b) p) ∙ types-long
+
+    -- none of them is longer than a cell
+    pub along-short : (z : ℕ) → T (within z v) → Short z framesAlong
+    along-short z w = cut-short v z w (take b (map typeOf (drop 1 p))) (drop (1 + b) p)
+
+    pub along : (start k : ℕ) → k < b → start ≡ 1 + b + before v p k → Along start k
+    along start k h e =
+        let types = map typeOf (drop 1 p) in
+        let ts = take b types in
+        let q : k < length ts = omega (arith, types-long) in
+        let t : getD ts k 0 ≡ typeIn p k = getD-take b types k 0 h ∙ type-at p k in
+        let s : total v (take k ts) ≡ before v p k = ap (total v) (take-take k b types (omega arith)) in
+        let n = start-next v p k (omega arith) in
+        let m = total-le v types (k + 1) b (omega arith) in
+        record {
+          entry = omega arith;
+          type = sym (cut-type v ts (drop (1 + b) p) k ∙ t);
+          body = sym (cut-body v ts (drop (1 + b) p) k q
+              ∙ ap₂ (λ (z i : ℕ). take (size v z) (drop i (drop (1 + b) p))) t s
+              ∙ ap (take (size v (typeIn p k))) (drop-drop (before v p k) (1 + b) p ∙ ap (λ (i : ℕ). drop i p) (sym e)));
+          inside = omega arith;
+          next = omega arith;
+        }
 
 -- ---- frame k is asked of a type 1 payload
 pub show-refused : (f : Form) (w : Reading) (k : ℕ) (r : Refusal) → Refused r ≡ contentsOf w → located.Refused r ≡ locatedOf (givenOf f w) k
@@ -222,6 +297,8 @@ show-past f (packet l′ n′ d′ fs) k l n b d e h = let q : b ≡ length fs =
 pub record Shows (v : FrameTable) (m : Limits) (p : List ℕ) (k b : ℕ) : Type 0 where
   pub place : located.At (typeIn p k) (1 + b + before v p k) (size v (typeIn p k)) ≡ locatedOf (givenAs v (Interleaved m) p) k
   pub entry : k + 1 < length p
+  pub few : b ≤ 10
+  pub inside : 1 + b + before v p k ≤ length p
 
 pub shows : (v : FrameTable) (m : Limits) (p : List ℕ) (k l n b d : ℕ) → Packet l n b d ≡ contentsOf (readAs v (Interleaved m) p) → k < b → Shows v m p k b
 unfolding contentsOf givenOf givenAs
@@ -232,11 +309,14 @@ shows v m p k l n b d e h = go (readAs v (Interleaved m) p) refl e
     go (packet l′ n′ d′ fs) q x =
         let c : b ≡ length fs = cc in
         let h′ : k < length fs = omega arith in
-        let s = stands v m p l′ n′ d′ fs k (framed v m p l′ n′ d′ fs q) h′ in
+        let o = framed v m p l′ n′ d′ fs q in
+        let s = stands v m p l′ n′ d′ fs k o h′ in
         let z : 1 + b + before v p k ≡ 1 + length fs + taken 0 (take k fs) + 0 = omega (arith, s .start) in
         record {
           place = rw q (cc (s .type, s .octets, z, asked (1 + length fs) 0 fs k h′));
           entry = s .entry;
+          few = omega (arith, filled v m p l′ n′ d′ fs o .few);
+          inside = omega (arith, s .inside);
         }
 
 -- ---- frame k is asked of a type 2 payload

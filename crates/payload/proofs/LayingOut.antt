@@ -1,82 +1,124 @@
--- The frames of a payload, laid out one by one. Assumes nothing.
-use Prim.Native.Nat.{ℕ, _-_, _≤_, _<_}
-use mathlib.Core.Bool.{Bool, true, false}
-use mathlib.Core.Path.{_≡_, refl}
-use mathlib.Core.List.{List}
+-- The frames of a payload, laid out as a packet. Assumes nothing.
+use Prim.Native.Nat.{ℕ, _+_, _*_, _≤_}
+use mathlib.Core.Path.{_≡_, refl, sym, ap, ap₂, _∙_}
+use mathlib.Core.List.{List, [], _∷_, map}
+use native.Mathlib.Nat.{mul-zero, le-refl}
 use native.Mathlib.Omega.{arith}
-use lib.ListN.{length}
-use lib.Dec.{T, ltb}
-use borrow.Author.Tests.{ltb-true, ltb-false}
+use lib.ListN.{length, take, drop, set, replicate, length-drop, length-replicate}
+use lib.Seq.{take-all}
+use lib.Dec.{T}
+use Rattle.octets.specs.Octets.{over}
 use Rattle.octets.proofs.Logic.{apart}
-use Rattle.frame.specs.FrameTable.{FrameTable, within, single, AllListed}
-use Rattle.frame.specs.Places.{frameAt, locatedOf, bodyOf}
+use Rattle.octets.proofs.OctetsLaws.{over-whole}
+use Rattle.frame.specs.FrameTable.{FrameTable, Frame, rowOfSize, within, single, erasure}
+use Rattle.frame.specs.declared.Row.{Row}
+use Rattle.frame.specs.declared.Lookup.the-variants.{Found, Missing}
+use Rattle.frame.specs.Entry.{typeOf}
+use Rattle.frame.specs.Places.{taken}
+use Rattle.frame.specs.Shape.{Shape, roomOf}
 use Rattle.answers.specs.declared.Refusal.{Refusal}
-use Rattle.form.specs.declared.Form.{Form}
-use Rattle.frame.specs.declared.Located.the-variants.{At, Refused}
-use Rattle.frame.proofs.PlacesLaws.{placeIf}
-use Rattle.bundle.proofs.LaidOutLaws.{Short, listed-short}
-use Rattle.payload.specs.Payload.{Reading, packet, refusedPayload, readAs}
-use Rattle.payload.specs.Shown.{headOf, givenOf, givenAs, framesRead}
+use Rattle.form.specs.declared.Limits.{Limits}
+use Rattle.form.specs.declared.Form.the-variants.{HeaderFree, Interleaved}
+use Rattle.bundle.specs.declared.Bundle.{Bundle}
+use Rattle.bundle.specs.Bundles.{bundleIn, notHeld}
+use Rattle.bundle.specs.LaidOut.{laid}
+use Rattle.bundle.proofs.LaidOutLaws.{Short, listed-short, LaidFirst, laid-none, laid-more, laid-all}
+use Rattle.payload.specs.Payload.{Reading, packet, refusedPayload, total, cut, oneBody, readAs}
+use Rattle.payload.specs.Shown.{contentsOf, framesRead}
+use Rattle.payload.specs.declared.Contents.the-variants.{Packet, Refused}
+use Rattle.payload.proofs.Laying.{framesAlong, framed, filled, cut-taken}
+use Rattle.payload.proofs.Checks.{length-cut}
 use Rattle.payload.proofs.Readings.{read-is}
 
--- ---- frame k is asked of a payload, and the frames that were read
-module _ (v : FrameTable) (f : Form) (p : List ℕ) where
-  pub read-few : T (single v v) → length (framesRead (readAs v f p)) ≤ 10
-  unfolding framesRead
-  read-few s = go (readAs v f p) refl
-    where
-      go : (w : Reading) → readAs v f p ≡ w → length (framesRead w) ≤ 10
-      go (refusedPayload x) e = omega arith
-      go (packet l n d fs) e = read-is v s f p l n d fs e .few
+-- erasures and zeros: no frame of these is laid out yet
+pub none-laid : (u : Shape) (ms rs : List ℕ) → bundleIn ms rs ≡ notHeld u → (fs : List Frame) → (length ms ≡ 10) × (length rs ≡ roomOf u) × LaidFirst u fs 0 ms rs
+unfolding notHeld
+none-laid u ms rs e fs =
+    let m : ms ≡ notHeld u .marks = ap (λ (p : Bundle). p .marks) e in
+    let r : rs ≡ notHeld u .room = ap (λ (p : Bundle). p .room) e in
+    (ap length m ∙ length-replicate {A = ℕ} 10 erasure, ap length r ∙ length-replicate {A = ℕ} (roomOf u) 0, rw (m, r) (laid-none u fs))
 
-  read-listed : T (single v v) → AllListed v (framesRead (readAs v f p))
-  unfolding framesRead
-  read-listed s = go (readAs v f p) refl
-    where
-      go : (w : Reading) → readAs v f p ≡ w → AllListed v (framesRead w)
-      go (refusedPayload x) e = tt
-      go (packet l n d fs) e = read-is v s f p l n d fs e .listed
+-- ten marks and a packet's cells, whatever was there, filled with them
+pub cleared : (u : Shape) (ms₀ rs₀ ms rs : List ℕ) → length ms₀ ≡ 10 → length rs₀ ≡ roomOf u
+    → ms ≡ over ms₀ 0 (replicate 10 erasure) → rs ≡ over rs₀ 0 (replicate (roomOf u) 0) → bundleIn ms rs ≡ notHeld u
+unfolding notHeld
+cleared u ms₀ rs₀ ms rs a b e f =
+    let m = e ∙ over-whole ms₀ (replicate 10 erasure) (a ∙ sym (length-replicate {A = ℕ} 10 erasure)) in
+    let r = f ∙ over-whole rs₀ (replicate (roomOf u) 0) (b ∙ sym (length-replicate {A = ℕ} (roomOf u) 0)) in
+    rw (m, r)
 
-  pub read-short : (z : ℕ) → T (within z v) → T (single v v) → Short z (framesRead (readAs v f p))
-  read-short z w s = listed-short z v w (framesRead (readAs v f p)) (read-listed s)
+pub laid-empty : (u : Shape) (fs : List Frame) → length fs ≡ 0 → notHeld u ≡ laid u fs
+laid-empty u fs e = laid-all u fs 0 (notHeld u .marks) (notHeld u .room) (omega arith) (laid-none u fs)
 
--- what was read is shown: no frame k, or frame k
-pub show-none : (f : Form) (w : Reading) (k : ℕ) (r : Refusal) → Refused r ≡ locatedOf (givenOf f w) k → length (framesRead w) ≤ k
-unfolding framesRead givenOf locatedOf
-show-none f (refusedPayload x) k r e = omega arith
-show-none f (packet l n d fs) k r e = go (ltb k (length fs)) refl e
+-- how many frames were read
+pub packet-many : (w : Reading) (l n b d : ℕ) → Packet l n b d ≡ contentsOf w → b ≡ length (framesRead w)
+unfolding contentsOf framesRead
+packet-many (packet l′ n′ d′ fs) l n b d e = cc
+packet-many (refusedPayload r) l n b d e = apart (cc)
+
+pub refused-none : (w : Reading) (r : Refusal) → Refused r ≡ contentsOf w → 0 ≡ length (framesRead w)
+unfolding contentsOf framesRead
+refused-none (packet l n d fs) r e = apart (cc)
+refused-none (refusedPayload r′) r e = refl
+
+-- the frames of a type 1 payload that was read are those along its entries and bodies
+pub record ReadAlong (v : FrameTable) (p : List ℕ) (b : ℕ) (fs : List Frame) : Type 0 where
+  pub few : b ≤ 10
+  pub fits : 1 + b + total v (take b (map typeOf (drop 1 p))) ≤ length p
+  pub frames : framesAlong v p b ≡ fs
+
+pub read-along : (v : FrameTable) → T (single v v) → (m : Limits) (p : List ℕ) (b : ℕ) → b ≡ length (framesRead (readAs v (Interleaved m) p)) → (b ≡ 0 → ⊥)
+    → ReadAlong v p b (framesRead (readAs v (Interleaved m) p))
+unfolding framesRead
+read-along v one m p b e z = go (readAs v (Interleaved m) p) refl e
   where
-    go : (b : Bool) → ltb k (length fs) ≡ b → Refused r ≡ placeIf (headOf f (length fs)) 0 fs k b → length fs ≤ k
-    go true q x = apart (cc)
-    go false q x = ltb-false k (length fs) q
+    go : (w : Reading) → readAs v (Interleaved m) p ≡ w → b ≡ length (framesRead w) → ReadAlong v p b (framesRead w)
+    go (refusedPayload r) q h = absurd (z h)
+    go (packet l n d fs) q h =
+        let o = framed v m p l n d fs q in
+        let x = filled v m p l n d fs o in
+        let c : length (o .ts) ≡ b = sym (x .many) ∙ sym h in
+        let t : o .ts ≡ take b (map typeOf (drop 1 p)) = x .types ∙ ap (λ (i : ℕ). take i (map typeOf (drop 1 p))) c in
+        record {
+          few = omega (arith, read-is v one (Interleaved m) p l n d fs q .few);
+          fits = omega (arith, x .fills, ap (total v) t, c);
+          frames = sym (x .frames ∙ ap₂ (λ (q : List ℕ) (i : ℕ). cut v q (drop (1 + i) p)) t c);
+        }
 
-pub show-frame : (f : Form) (w : Reading) (k t s z : ℕ) → At t s z ≡ locatedOf (givenOf f w) k → (k < length (framesRead w)) × (t ≡ frameAt (framesRead w) k .type)
-unfolding framesRead givenOf locatedOf
-show-frame f (refusedPayload x) k t s z e = apart (cc)
-show-frame f (packet l n d fs) k t s z e = go (ltb k (length fs)) refl e
-  where
-    go :
-        (b : Bool) →
-        ltb k (length fs) ≡ b →
-        At t s z ≡ placeIf (headOf f (length fs)) 0 fs k b →
-        (k < length fs) × (t ≡ frameAt fs k .type)
-    go true q x = (ltb-true k (length fs) q, cc)
-    go false q x = apart (cc)
+-- and their bodies take what octet 0 and the entries leave of it
+pub read-fills : (v : FrameTable) (m : Limits) (p : List ℕ) (l n d : ℕ) (fs : List Frame) → readAs v (Interleaved m) p ≡ packet l n d fs → 1 + length fs + taken 0 fs ≡ length p
+read-fills v m p l n d fs e =
+    let o = framed v m p l n d fs e in
+    let x = filled v m p l n d fs o in
+    let bs = drop (1 + length (o .ts)) p in
+    let c = cut-taken v (o .ts) bs (length (o .ts)) (omega (arith, x .fills, length-drop (1 + length (o .ts)) p)) in
+    let f = ap (taken 0) (sym (take-all (length (o .ts)) (cut v (o .ts) bs) (omega (arith, length-cut v (o .ts) bs)))) in
+    let t = ap (total v) (take-all (length (o .ts)) (o .ts) (le-refl _)) in
+    omega (arith, x .fills, x .many, ap (taken 0) (x .frames), c, f, t)
 
-pub show-body : (f : Form) (w : Reading) (k : ℕ) → bodyOf (givenOf f w) k ≡ frameAt (framesRead w) k .body
-unfolding framesRead givenOf bodyOf
-show-body f (refusedPayload x) k = refl
-show-body f (packet l n d fs) k = refl
+-- ---- the one frame of a header-free payload, if it has one
+module _ (v : FrameTable) (u : Shape) (p ms rs : List ℕ) (e : bundleIn ms rs ≡ notHeld u) where
+  pub free-none : rowOfSize v (length p) ≡ Missing → bundleIn ms rs ≡ laid u (framesRead (readAs v HeaderFree p))
+  unfolding readAs oneBody framesRead
+  free-none q = e ∙ rw q (laid-empty u [] refl)
 
-module _ (v : FrameTable) (f : Form) (p : List ℕ) (k : ℕ) where
-  pub asked-none : (r : Refusal) → Refused r ≡ locatedOf (givenAs v f p) k → length (framesRead (readAs v f p)) ≤ k
-  unfolding givenAs
-  asked-none r e = show-none f (readAs v f p) k r e
+  module _ (one : T (single v v)) (w : T (within (u .cell) v)) (r : Row) (q : rowOfSize v (length p) ≡ Found r) where
+    -- it fits a cell
+    free-short : Short (u .cell) (record { type = r .kind; body = p } ∷ [])
+    unfolding readAs oneBody
+    free-short =
+        let fs : List Frame = record { type = r .kind; body = p } ∷ [] in
+        let e : readAs v HeaderFree p ≡ packet 0 0 0 fs = rw q in
+        listed-short (u .cell) v w fs (read-is v one HeaderFree p 0 0 0 fs e .listed)
 
-  pub asked-frame : (t s z : ℕ) → At t s z ≡ locatedOf (givenAs v f p) k → (k < length (framesRead (readAs v f p))) × (t ≡ frameAt (framesRead (readAs v f p)) k .type)
-  unfolding givenAs
-  asked-frame t s z e = show-frame f (readAs v f p) k t s z e
+    pub free-fits : 0 + length p ≤ length rs
+    free-fits = omega (arith, free-short .0, none-laid u ms rs e [] .1)
 
-  pub asked-body : bodyOf (givenAs v f p) k ≡ frameAt (framesRead (readAs v f p)) k .body
-  unfolding givenAs
-  asked-body = show-body f (readAs v f p) k
+    pub free-one : (rs′ : List ℕ) → rs′ ≡ over rs 0 p → bundleIn (set ms 0 (r .kind)) rs′ ≡ laid u (framesRead (readAs v HeaderFree p))
+    unfolding readAs oneBody framesRead
+    free-one rs′ f =
+        let fs : List Frame = record { type = r .kind; body = p } ∷ [] in
+        let first = none-laid u ms rs e fs .2 in
+        let g : rs′ ≡ over rs (u .cell * 0) p = f ∙ ap (λ (i : ℕ). over rs i p) (sym (mul-zero (u .cell))) in
+        let more = laid-more u fs (omega arith) free-short 0 (omega arith) ms rs rs′ p (r .kind) first refl refl g in
+        laid-all u fs (0 + 1) (set ms 0 (r .kind)) rs′ (omega arith) more ∙ rw q

@@ -1,6 +1,6 @@
 -- What is known of a payload that was read as a packet, in either form. Assumes nothing.
 use Prim.Native.Nat.{ℕ, _+_, _≤_, _<_}
-use mathlib.Core.Path.{_≡_, refl, sym, ap, subst, _∙_}
+use mathlib.Core.Path.{_≡_, refl, sym, ap, subst}
 use mathlib.Core.List.{List, [], _∷_}
 use mathlib.Core.Bool.{Bool, true, false, cond}
 use native.Mathlib.Omega.{arith}
@@ -16,11 +16,9 @@ use Rattle.frame.specs.declared.Lookup.the-variants.{Found, Missing}
 use Rattle.form.specs.declared.Form.{Form}
 use Rattle.form.specs.declared.Form.the-variants.{HeaderFree, Interleaved}
 use Rattle.frame.proofs.FrameTableLaws.{size-listed}
-use Rattle.form.proofs.AgreedLaws.{range-bounds}
 use Rattle.payload.specs.Payload.{packet, Toc, contents, fault, put, toc, total, cut, oneBody, readAs}
 use Rattle.payload.proofs.Tables.{entryIf}
-use Rattle.payload.proofs.Laying.{Framed, framed}
-use Rattle.payload.proofs.Checks.{length-cut}
+use Rattle.payload.proofs.Laying.{Framed, framed, filled}
 
 -- ---- the types of a table of contents that was read are in the frame table
 abbrev TypesKnown : FrameTable → List ℕ → Type 0
@@ -69,13 +67,12 @@ pub record IsPacket (v : FrameTable) (l n : ℕ) (fs : List Frame) : Type 0 wher
 interleaved-is : (v : FrameTable) (m : Limits) (p : List ℕ) (l n d : ℕ) (fs : List Frame) → Framed v m p l n d fs → IsPacket v l n fs
 interleaved-is v m p l n d fs o =
     let k : TypesKnown v (o .ts) = subst (KnownIn v) (o .toc-is) (toc-known v (m .«max_b») 0 1 (o .es)) in
-    let c : length fs ≡ length (o .ts) = ap length (o .frames) ∙ length-cut v (o .ts) (o .rest) in
-    let b = range-bounds m (o .range) in
+    let x = filled v m p l n d fs o in
     record {
       length-small = omega (arith, o .l-is);
       index-in = omega (arith, o .l-is, o .n-is, o .index);
-      some = omega (arith, o .whole .some);
-      few = omega (arith, o .whole .few, b .2);
+      some = omega (arith, x .many, o .whole .some);
+      few = x .few;
       listed = subst (AllListed v) (sym (o .frames)) (cut-listed v (o .ts) (o .rest) k (omega (arith, o .full)));
     }
 

@@ -72,6 +72,7 @@ pub record Counted (v : FrameTable) (max : ℕ) (es : List ℕ) (w : Toc) (c s d
   pub behind : ℕ
   pub rest : List ℕ
   pub is : w ≡ contents ts d behind rest
+  pub some : 0 < c
   pub count : c ≡ length ts
   pub octets : s ≡ total v ts
   pub types : ts ≡ take c (map typeOf es)
@@ -92,6 +93,7 @@ counted-table v max es (contents ts d′ behind rest) c s d h e =
       behind = behind;
       rest = rest;
       is = ap (λ (x : ℕ). contents ts x behind rest) k;
+      some = omega (arith, h .some);
       count = q;
       octets = cc;
       types = h .types ∙ ap (λ (x : ℕ). take x (map typeOf es)) (sym q);

@@ -8,18 +8,22 @@ use frame::Located;
 use frame::Lookup;
 use frame::Vocoder;
 ghost use mathlib.Core.Path.{_≡_};
-ghost use Prim.Native.Nat.{_+_, _<_};
+ghost use mathlib.Core.Logic.{_⊎_};
+ghost use Prim.Native.Nat.{ℕ, _+_, _-_, _<_, _≤_};
 ghost use mathlib.Core.List.{map};
-ghost use lib.ListN.{length, drop, take};
+ghost use lib.ListN.{length, drop, take, getD};
+ghost use Rattle.bundle.specs.Bundles.{bundleIn, notHeld};
 ghost use Rattle.bundle.specs.LaidOut.{laid};
-ghost use Rattle.frame.specs.Shape.{holdingShape};
+ghost use Rattle.frame.specs.Shape.{holdingShape, shapeOf, roomOf};
 ghost use Rattle.form.specs.declared.Form.the-variants.{HeaderFree, Interleaved};
 ghost use Rattle.frame.specs.Entry.{typeOf};
-ghost use Rattle.frame.specs.FrameTable.{rowsOf};
+ghost use Rattle.frame.specs.FrameTable.{FrameTable, rowsOf};
 ghost use Rattle.form.specs.Agreed.{tableOf, defaultForm};
 ghost use Rattle.frame.specs.Places.{locatedOf, bodyOf, startOf, VeryPart};
-ghost use Rattle.payload.specs.Payload.{readAs, interleaved, toc, total, firstCut};
+ghost use Rattle.payload.specs.Payload.{Reading, readAs, interleaved, toc, total, cut, firstCut};
 ghost use Rattle.payload.specs.Shown.{contentsOf, walked, givenAs, framesRead};
+ghost use Rattle.payload.specs.declared.Contents.the-variants.{Packet};
+ghost use Rattle.payload.specs.declared.Walked.the-variants.{Whole};
 
 // What a payload holds: L, N, B and D, or the refusal.
 pub enum Contents {
@@ -34,19 +38,36 @@ pub enum Walked {
     Fault(Refusal),
 }
 
-// The walk over the table of contents, which ends at the first fault it meets.
-fn walk(vocoder: Vocoder, max_b: u8, payload: &[u8]) -> Walked
-    ensures { λ r. ⌜ r ≡ walked (rowsOf vocoder) (toc (rowsOf vocoder) «max_b» 0 1 (drop 1 (now (payload .entry)))) ⌝ }
+// The most entries that may stand in so many octets, behind octet 0: no more than max.
+fn most_entries(max: usize, octets: usize) -> usize
+    ensures { λ r. ⌜ (r ≤ max) × (r ≤ octets - 1) × ((max ≤ r) ⊎ (octets ≤ r + 1)) ⌝ }
 {
-    let max = max_b as usize;
+    if max < octets {
+        return max;
+    }
+    if octets == 0 {
+        return 0;
+    }
+    octets - 1
+}
+
+// The walk over the table of contents, which ends at the first fault it meets; sums keeps, for each body, the octets of those
+// before it.
+fn walk(vocoder: Vocoder, max_b: u8, payload: &[u8], sums: &mut [usize]) -> Walked
+    requires { ⌜ «max_b» ≤ length (now sums) ⌝ }
+    ensures { λ r. ⌜ r ≡ walked (rowsOf vocoder) (toc (rowsOf vocoder) «max_b» 0 1 (drop 1 (now (payload .entry)))) ⌝ }
+    ensures { λ r. ⌜ ((c s d : ℕ) → r ≡ Whole c s d → (i : ℕ) → i < c
+        → getD (now (sums .exit)) i 0 ≡ total (rowsOf vocoder) (take i (map typeOf (drop 1 (now (payload .entry)))))) ⌝ }
+{
+    let most = most_entries(max_b as usize, payload.len());
     let mut count: usize = 0;
     let mut size: usize = 0;
     'entries: loop {
         let at = count + 1;
-        if payload.len() <= at {
-            break 'entries Walked::Fault(Refusal::TableCut(at));
-        }
-        if max <= count {
+        if most <= count {
+            if payload.len() <= at {
+                break 'entries Walked::Fault(Refusal::TableCut(at));
+            }
             break 'entries Walked::Fault(Refusal::TooManyFrames(at));
         }
         let entry = payload[at];
@@ -56,6 +77,7 @@ fn walk(vocoder: Vocoder, max_b: u8, payload: &[u8]) -> Walked
                 break 'entries Walked::Fault(Refusal::ReservedType(at));
             }
             Lookup::Found(row) => {
+                sums[count] = size;
                 size = size + row.octets;
                 count = at;
                 if entry < 128 {
@@ -70,29 +92,31 @@ fn walk(vocoder: Vocoder, max_b: u8, payload: &[u8]) -> Walked
     }
 }
 
-// The place of the first body, of count entries, that doesn't fit whole; the end of the last one where all do.
-fn first_cut(vocoder: Vocoder, payload: &[u8], count: usize) -> usize
-    requires { ⌜ count < length (now payload) ⌝ }
-    ensures { λ r. ⌜ r
-        ≡ firstCut (rowsOf vocoder) (1 + count) (take count (map typeOf (drop 1 (now (payload .entry))))) (drop (1 + count) (now (payload .entry))) ⌝ }
+// The place of the first of count bodies that doesn't fit whole, by the walk's sums; the last body's where all before it fit.
+fn first_cut(payload: &[u8], count: usize, sums: &[usize]) -> usize
+    requires { ⌜ (0 < count) × (count < length (now payload)) × (count ≤ length (now sums)) × (getD (now sums) 0 0 ≡ 0) ⌝ }
+    ensures { λ r. ⌜ ((v : FrameTable)
+        → ((i : ℕ) → i < count → getD (now (sums .entry)) i 0 ≡ total v (take i (map typeOf (drop 1 (now (payload .entry))))))
+        → length (now (payload .entry)) - 1 - count < total v (take count (map typeOf (drop 1 (now (payload .entry)))))
+        → r ≡ firstCut v (1 + count) (take count (map typeOf (drop 1 (now (payload .entry))))) (drop (1 + count) (now (payload .entry)))) ⌝ }
 {
-    let mut start = 1 + count;
-    let mut i: usize = 0;
-    while i < count {
-        let at = i + 1;
-        let size = frame::body_size(vocoder, payload[at] % 64);
-        if payload.len() - start < size {
-            return start;
+    let left = payload.len() - 1 - count;
+    let mut j: usize = 0;
+    while j + 1 < count {
+        if left < sums[j + 1] {
+            return 1 + count + sums[j];
         }
-        start = start + size;
-        i = at;
+        j = j + 1;
     }
-    start
+    1 + count + sums[j]
 }
 
 // Type 1, under limits that are in range: octet 0, then the walk, then the bodies.
-fn read_within(vocoder: Vocoder, limits: Limits, payload: &[u8]) -> Contents
+fn read_within(vocoder: Vocoder, limits: Limits, payload: &[u8], sums: &mut [usize]) -> Contents
+    requires { ⌜ (limits .«max_b» ≤ 10) × (length (now sums) ≡ 10) ⌝ }
     ensures { λ r. ⌜ r ≡ contentsOf (interleaved (rowsOf vocoder) limits (now (payload .entry))) ⌝ }
+    ensures { λ r. ⌜ ((l n b d : ℕ) → r ≡ Packet l n b d → (i : ℕ) → i < b
+        → getD (now (sums .exit)) i 0 ≡ total (rowsOf vocoder) (take i (map typeOf (drop 1 (now (payload .entry)))))) ⌝ }
 {
     if payload.len() < 1 {
         return Contents::Refused(Refusal::NoOctet);
@@ -106,13 +130,13 @@ fn read_within(vocoder: Vocoder, limits: Limits, payload: &[u8]) -> Contents
     if limits.max_l < l {
         return Contents::Refused(Refusal::LengthPastMaximum);
     }
-    let entries = walk(vocoder, limits.max_b, payload);
+    let entries = walk(vocoder, limits.max_b, payload, sums);
     match entries {
         Walked::Fault(r) => Contents::Refused(r),
         Walked::Whole { count, size, d } => {
             let left = payload.len() - 1 - count;
             if left < size {
-                let at = first_cut(vocoder, payload, count);
+                let at = first_cut(payload, count, sums);
                 return Contents::Refused(Refusal::BodiesCut(at));
             }
             if size < left {
@@ -126,13 +150,21 @@ fn read_within(vocoder: Vocoder, limits: Limits, payload: &[u8]) -> Contents
 }
 
 // Type 1: limits out of range are refused first.
-fn read_interleaved(vocoder: Vocoder, limits: Limits, payload: &[u8]) -> Contents
+fn read_interleaved(
+    vocoder: Vocoder,
+    limits: Limits,
+    payload: &[u8],
+    sums: &mut [usize],
+) -> Contents
+    requires { ⌜ length (now sums) ≡ 10 ⌝ }
     ensures { λ r. ⌜ r ≡ contentsOf (readAs (rowsOf vocoder) (Interleaved limits) (now (payload .entry))) ⌝ }
+    ensures { λ r. ⌜ ((l n b d : ℕ) → r ≡ Packet l n b d → (i : ℕ) → i < b
+        → getD (now (sums .exit)) i 0 ≡ total (rowsOf vocoder) (take i (map typeOf (drop 1 (now (payload .entry)))))) ⌝ }
 {
     let opened = Limits::open(limits.max_l, limits.max_b);
     match opened {
         Opened::Refused(r) => Contents::Refused(r),
-        Opened::Agreed(agreed) => read_within(vocoder, agreed, payload),
+        Opened::Agreed(agreed) => read_within(vocoder, agreed, payload, sums),
     }
 }
 
@@ -158,7 +190,10 @@ pub fn read(form: Form, payload: &[u8]) -> Contents
 {
     match form {
         Form::HeaderFree => read_header_free(Vocoder::Evrc, payload),
-        Form::Interleaved(limits) => read_interleaved(Vocoder::Evrc, limits, payload),
+        Form::Interleaved(limits) => {
+            let mut sums = [0usize; 10];
+            read_interleaved(Vocoder::Evrc, limits, payload, &mut sums)
+        }
     }
 }
 
@@ -169,26 +204,12 @@ pub fn read_agreed(payload: &[u8]) -> Contents
     read(Form::Interleaved(Limits::agreed()), payload)
 }
 
-// The start of body k: behind octet 0, the b entries, and the bodies before it.
-fn body_start(vocoder: Vocoder, payload: &[u8], b: u8, k: usize) -> usize
-    requires { ⌜ (k < 256) × (k < length (now payload)) ⌝ }
-    ensures { λ r. ⌜ r ≡ 1 + b + total (rowsOf vocoder) (take k (map typeOf (drop 1 (now (payload .entry))))) ⌝ }
-{
-    let mut start = 1 + b as usize;
-    let mut i: usize = 0;
-    while i < k {
-        let at = i + 1;
-        start = start + frame::body_size(vocoder, payload[at] % 64);
-        i = at;
-    }
-    start
-}
-
 // Frame k of a type 1 payload.
 fn locate_interleaved(vocoder: Vocoder, limits: Limits, payload: &[u8], k: usize) -> Located
     ensures { λ r. ⌜ r ≡ locatedOf (givenAs (rowsOf vocoder) (Interleaved limits) (now (payload .entry))) k ⌝ }
 {
-    let held = read_interleaved(vocoder, limits, payload);
+    let mut sums = [0usize; 10];
+    let held = read_interleaved(vocoder, limits, payload, &mut sums);
     match held {
         Contents::Refused(r) => Located::Refused(r),
         Contents::Packet {
@@ -201,9 +222,8 @@ fn locate_interleaved(vocoder: Vocoder, limits: Limits, payload: &[u8], k: usize
             if count <= k {
                 return Located::Refused(Refusal::NotApplicable);
             }
-            let at = k + 1;
-            let kind = payload[at] % 64;
-            let start = body_start(vocoder, payload, b, k);
+            let kind = payload[k + 1] % 64;
+            let start = 1 + count + sums[k];
             let size = frame::body_size(vocoder, kind);
             Located::At { kind, start, size }
         }
@@ -247,31 +267,88 @@ pub fn body(form: Form, payload: &[u8], k: usize) -> &[u8]
     frame::part(payload, locate(form, payload, k))
 }
 
+// Lays b frames out over erasures and zeros, along the entries from octet 1 on and the bodies behind them together.
+fn lay_entries(vocoder: Vocoder, payload: &[u8], b: u8, marks: &mut [u8], room: &mut [u8])
+    requires { ⌜ (b ≤ 10)
+        × (1 + b + total (rowsOf vocoder) (take b (map typeOf (drop 1 (now payload)))) ≤ length (now payload))
+        × (bundleIn (now marks) (now room) ≡ notHeld (shapeOf vocoder)) ⌝ }
+    ensures { λ _. ⌜ bundleIn (now (marks .exit)) (now (room .exit))
+        ≡ laid (shapeOf vocoder) (cut (rowsOf vocoder) (take b (map typeOf (drop 1 (now (payload .entry))))) (drop (1 + b) (now (payload .entry)))) ⌝ }
+{
+    let cell = frame::cell_of(vocoder);
+    let count = b as usize;
+    let mut start = 1 + count;
+    let mut k: usize = 0;
+    while k < count {
+        let at = k + 1;
+        let kind = payload[at] % 64;
+        let end = start + frame::body_size(vocoder, kind);
+        marks[k] = kind;
+        octets::copy(room, cell * k, &payload[start..end]);
+        start = end;
+        k = at;
+    }
+}
+
+// Lays the one frame of a header-free payload out over erasures and zeros, if it has one.
+fn lay_body(vocoder: Vocoder, payload: &[u8], marks: &mut [u8], room: &mut [u8])
+    requires { ⌜ bundleIn (now marks) (now room) ≡ notHeld (shapeOf vocoder) ⌝ }
+    ensures { λ _. ⌜ bundleIn (now (marks .exit)) (now (room .exit))
+        ≡ laid (shapeOf vocoder) (framesRead (readAs (rowsOf vocoder) HeaderFree (now (payload .entry)))) ⌝ }
+{
+    let found = frame::row_of_size(vocoder, payload.len());
+    match found {
+        Lookup::Missing => {}
+        Lookup::Found(row) => {
+            marks[0] = row.kind;
+            octets::copy(room, 0, payload);
+        }
+    }
+}
+
+// internal: a caller has cut the ten marks and the cells of a packet, and b is the number of the frames that were read.
+// Lays the frames of a payload out as a packet, whatever was there; none where the payload is refused.
+pub fn lay_frames(form: Form, payload: &[u8], b: u8, marks: &mut [u8], room: &mut [u8])
+    requires { ⌜ (b ≡ length (framesRead (readAs (tableOf form) form (now payload))))
+        × (length (now marks) ≡ 10)
+        × (length (now room) ≡ roomOf holdingShape) ⌝ }
+    ensures { λ _. ⌜ bundleIn (now (marks .exit)) (now (room .exit))
+        ≡ laid holdingShape (framesRead (readAs (tableOf form) form (now (payload .entry)))) ⌝ }
+{
+    octets::fill(marks, 0, 10, 14);
+    octets::fill(room, 0, 220, 0);
+    if b == 0 {
+        return;
+    }
+    match form {
+        Form::HeaderFree => lay_body(Vocoder::Evrc, payload, marks, room),
+        Form::Interleaved(_) => lay_entries(Vocoder::Evrc, payload, b, marks, room),
+    }
+}
+
+// The number of frames of a payload that was read; none where it was refused.
+fn frames_in(contents: Contents) -> u8
+    ensures { λ r. ⌜ ((w : Reading) → contents ≡ contentsOf w → r ≡ length (framesRead w)) ⌝ }
+{
+    match contents {
+        Contents::Refused(_) => 0,
+        Contents::Packet {
+            l: _,
+            n: _,
+            b,
+            d: _,
+        } => b,
+    }
+}
+
 // The frames of a payload laid out as a packet; none where the payload is refused.
 pub fn lay_out(form: Form, payload: &[u8]) -> Bundle
     ensures { λ r. ⌜ r ≡ laid holdingShape (framesRead (readAs (tableOf form) form (now (payload .entry)))) ⌝ }
 {
+    let b = frames_in(read(form, payload));
     let none = bundle::not_held();
     let mut marks = none.marks;
     let mut room = none.room;
-    let mut k: usize = 0;
-    'frames: loop {
-        let place = locate(form, payload, k);
-        match place {
-            Located::Refused(_) => {
-                break 'frames;
-            }
-            Located::At {
-                kind,
-                start: _,
-                size: _,
-            } => {
-                marks[k] = kind;
-                let body = frame::part(payload, place);
-                octets::copy(&mut room, 22 * k, body);
-                k = k + 1;
-            }
-        }
-    }
+    lay_frames(form, payload, b, &mut marks, &mut room);
     Bundle { marks, room }
 }

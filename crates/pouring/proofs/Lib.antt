@@ -1,1 +1,2 @@
 pub mod PouringLaws
+pub mod Growing

@@ -31,8 +31,9 @@ fn row_size(vocoder: Vocoder, marks: &[u8], m: usize, k: usize) -> usize
     size
 }
 
+// internal: a caller has the marks and cells of a group's packets.
 // The octets of the entries of the first b frames of m packets.
-fn pour_size(vocoder: Vocoder, marks: &[u8], m: usize, b: usize) -> usize
+pub fn pour_size(vocoder: Vocoder, marks: &[u8], m: usize, b: usize) -> usize
     requires { ⌜ (length (now marks) ≡ 10 * packetsOf (shapeOf vocoder)) × (m ≤ packetsOf (shapeOf vocoder)) × (b ≤ 10) ⌝ }
     ensures { λ r. ⌜ (r ≡ rowsSize (rowsOf vocoder) (now (marks .entry)) m b) × (r ≤ 20480) ⌝ }
 {
@@ -80,8 +81,9 @@ fn pour_row(
     next
 }
 
+// internal: a caller has the marks and cells of a group's packets.
 // Writes the entries of the first b frames of m packets, in time order.
-fn pour_rows(vocoder: Vocoder, marks: &[u8], room: &[u8], m: usize, b: usize, out: &mut [u8])
+pub fn pour_rows(vocoder: Vocoder, marks: &[u8], room: &[u8], m: usize, b: usize, out: &mut [u8])
     requires { ⌜ (length (now marks) ≡ 10 * packetsOf (shapeOf vocoder))
         × (length (now room) ≡ roomOf (shapeOf vocoder) * packetsOf (shapeOf vocoder))
         × (m ≤ packetsOf (shapeOf vocoder))
@@ -98,8 +100,9 @@ fn pour_rows(vocoder: Vocoder, marks: &[u8], room: &[u8], m: usize, b: usize, ou
     }
 }
 
+// internal: a caller has judged the holding.
 // Pours a holding that holds a packet. Its frames are EVRC, as yet of each holding.
-fn pour_held(h: Holding, out: &mut [u8]) -> Written
+pub fn pour_held(h: Holding, out: &mut [u8]) -> Written
     requires { ⌜ holds (voiceIn h) h ≡ true ⌝ }
     ensures { λ r. ⌜ Writes (octets (entriesOf (inTime (voiceIn h) h))) (now (out .entry)) r (now (out .exit)) ⌝ }
 {

@@ -4,7 +4,7 @@ use mathlib.Core.Bool.{Bool, true, false, cond, _&&_}
 use mathlib.Core.Path.{_≡_, refl, sym, subst, _∙_}
 use mathlib.Core.List.{List}
 use lib.Dec.{eqb}
-use borrow.Author.Tests.{eqb-true}
+use borrow.Author.Tests.{eqb-true, le-leb}
 use Rattle.octets.proofs.Logic.{apart, both-true}
 use Rattle.frame.specs.FrameTable.{Frame}
 use Rattle.frame.specs.Shape.{Shape, Voice}
@@ -18,10 +18,12 @@ use Rattle.numbers.specs.declared.Before.the-variants as before
 use Rattle.numbers.specs.declared.Verdict.{Verdict}
 use Rattle.numbers.proofs.PlaceLaws.{HeldEnds, held-ends, PouredEnds, poured-ends}
 use Rattle.numbers.proofs.PlaceLaws as numbers
+use Rattle.form.specs.declared.Form.{Form}
 use Rattle.holding.specs.Group.{numbersOf, isNothing, heldAt, bundleAt, withPacket, holds}
+use Rattle.holding.proofs.GroupLaws.{nothing-is, sound-has, holds-sound}
 use Rattle.bundle.specs.Bundles.{sameBundles}
-use Rattle.session.specs.Session.{formRight, lastRight, groupRight, isOpen, refuse, accept, withGroup, lastNumbers, groupBefore, begins}
-use Rattle.session.specs.Session.{belongs, placedBy, placed, arrival, judged, received, offered}
+use Rattle.session.specs.Session.{vacant, fresh, formRight, lastRight, groupRight, isOpen, refuse, accept, withGroup, lastNumbers, groupBefore, begins}
+use Rattle.session.specs.Session.{belongs, placedBy, placed, arrival, judged, received, offered, ended}
 use Rattle.session.specs.declared.Session.{Session}
 use Rattle.session.specs.declared.Arrival.{Arrival}
 use Rattle.session.specs.declared.Offered.{Offered}
@@ -47,11 +49,24 @@ pub group-has : (v : Voice) (s : Session) → groupRight v s ≡ true → isNoth
 unfolding groupRight
 group-has v s e f = let p = both-true (holds v (s .group)) (eqb (s .group .source) (s .source)) (rw f at e) in (p .0, eqb-true _ _ (p .1))
 
+-- one that was just opened is
+pub fresh-open : (v : Voice) (source : ℕ) (form : Form) → formRight form ≡ true → isOpen v (fresh (v .shape) source form) ≡ true
+unfolding isOpen fresh vacant lastRight groupRight
+fresh-open v source form e = simp (e, nothing-is (v .shape))
+
+-- after its group is ended, a session is open
+pub ended-open : (v : Voice) (s : Session) → isOpen v s ≡ true → holds v (s .group) ≡ true → isOpen v (ended (v .shape) s) ≡ true
+unfolding isOpen ended lastRight groupRight
+ended-open v s o h =
+    let x = open-has v s o in
+    let y = sound-has v (s .group) (holds-sound v (s .group) h .0) in
+    simp (x .opened, x .form, le-leb _ _ (y .low), le-leb _ _ (y .some), le-leb _ _ (y .few), nothing-is (v .shape))
+
 -- ---- a packet that was read, at its place; only a group that is held makes it 12
 pub data Placed (u : Shape) (s : Session) (a : Arrival) (o : Offered) : Type 0 where
   no : (r : Refusal) → (isNothing u (s .group) ≡ true → eqb (numberOf r) 12 ≡ false) → o ≡ refuse s r → Placed u s a o
   again : isNothing u (s .group) ≡ false → o ≡ accept s 0 → Placed u s a o
-  put : isNothing u (s .group) ≡ false → a .numbers .l ≡ s .group .l → a .numbers .b ≡ s .group .b
+  put : isNothing u (s .group) ≡ false → heldAt (s .group) (a .n) ≡ false → a .numbers .l ≡ s .group .l → a .numbers .b ≡ s .group .b
       → o ≡ accept (withGroup s (withPacket u (s .group) (a .n) (a .packet))) 0 → Placed u s a o
   first : isNothing u (s .group) ≡ true → s .poured ≡ false → o ≡ begins u s a 0 → Placed u s a o
   next : isNothing u (s .group) ≡ true → s .poured ≡ true → (lost : ℕ) → lost ≡ pause (lastNumbers s) (a .numbers) / 160
@@ -61,13 +76,13 @@ module _ (u : Shape) (s : Session) (a : Arrival) where
   -- it belongs to the held group
   belongs-ends : isNothing u (s .group) ≡ false → a .numbers .l ≡ s .group .l → a .numbers .b ≡ s .group .b → Placed u s a (belongs u s a)
   unfolding belongs
-  belongs-ends q l b = go (heldAt (s .group) (a .n)) (sameBundles (bundleAt u (s .group) (a .n)) (a .packet))
+  belongs-ends q l b = go (heldAt (s .group) (a .n)) refl (sameBundles (bundleAt u (s .group) (a .n)) (a .packet))
     where
-      go : (x y : Bool)
+      go : (x : Bool) → heldAt (s .group) (a .n) ≡ x → (y : Bool)
           → Placed u s a (cond x (cond y (accept s 0) (refuse s PacketDiffers)) (accept (withGroup s (withPacket u (s .group) (a .n) (a .packet))) 0))
-      go true true = again q refl
-      go true false = no PacketDiffers (λ h. refl) refl
-      go false y = put q l b refl
+      go true k true = again q refl
+      go true k false = no PacketDiffers (λ h. refl) refl
+      go false k y = put q k l b refl
 
   -- with a group held, and with one poured before
   by-held : isNothing u (s .group) ≡ false → (w : Verdict) → HeldEnds (numbersOf (s .group)) (a .numbers) w → Placed u s a (placedBy u s a w)
@@ -102,7 +117,7 @@ pub seen : (u : Shape) (s : Session) (a : Arrival) (o : Offered) → Placed u s 
 unfolding begins
 seen u s a o (no r n e) = kept r e
 seen u s a o (again q e) = rw q (took s e)
-seen u s a o (put q f g e) = rw q (took _ e)
+seen u s a o (put q k f g e) = rw q (took _ e)
 seen u s a o (first q p e) = rw (q, p) (took _ e)
 seen u s a o (next q p lost f h e) =
     let m = pause (lastNumbers s) (a .numbers) / 160 in
@@ -134,7 +149,7 @@ placed-group : (u : Shape) (s : Session) (a : Arrival) (o : Offered) → Placed 
 unfolding refuse accept withGroup begins
 placed-group u s a o (no r n e) = rw e
 placed-group u s a o (again q e) = rw e
-placed-group u s a o (put q l b e) = rw e
+placed-group u s a o (put q k l b e) = rw e
 placed-group u s a o (first q p e) = rw e
 placed-group u s a o (next q p lost f h e) = rw e
 

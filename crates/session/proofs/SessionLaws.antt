@@ -37,7 +37,10 @@ use Rattle.answers.specs.declared.Answer.the-variants as answer
 use Rattle.answers.specs.Outputs as outputs
 use Rattle.answers.specs.Outputs.{Made, Writes}
 use Rattle.answers.specs.declared.Written.{Written}
-use Rattle.pouring.specs.Pouring.{poured}
+use Rattle.entries.specs.Entries.{entriesOf}
+use Rattle.pouring.specs.Pouring.{inTime}
+use Rattle.pouring.proofs.PouringLaws.{pour-none, pour-all}
+use Rattle.holding.proofs.GroupLaws.{some-frames, no-frame}
 use Rattle.session.specs.Session.{formRight, openedFor, vacant, fresh, lastRight, groupRight, isOpen, refuse, accept, withGroup}
 use Rattle.session.specs.Session.{lastNumbers, groupBefore, begins, belongs, placedBy, placed, arrival, judged, received, offered}
 use Rattle.session.specs.Session.{pourMade, ended, noCopy, copied, notDropped, dropped}
@@ -46,6 +49,7 @@ use Rattle.session.specs.declared.Arrival.{Arrival}
 use Rattle.session.specs.declared.Started.{Started}
 use Rattle.session.specs.declared.Copied.{Copied}
 use Rattle.session.specs.declared.Dropped.{Dropped}
+use Rattle.session.proofs.Ends.{open-has, group-has}
 
 -- ---- the agreed form
 pub form-agreed : (m a : Limits) → opened.Agreed a ≡ opened (m .«max_l») (m .«max_b») → true ≡ formRight (Interleaved m)
@@ -203,9 +207,18 @@ module _ (v : Voice) (s : Session) where
   unfolding pourMade
   pour-closed e = simp e
 
-  pub pour-open : isOpen v s ≡ true → pourMade v s ≡ poured v (s .group)
-  unfolding pourMade
-  pour-open e = simp e
+  module _ (e : isOpen v s ≡ true) where
+    -- a group is held if B is not 0
+    pub group-holds : (s .group .b ≡ 0 → ⊥) → holds v (s .group) ≡ true
+    group-holds n = group-has v s (open-has v s e .group) (some-frames (v .shape) (s .group) n) .0
+
+    pub pour-vacant : s .group .b ≡ 0 → pourMade v s ≡ outputs.refusedOutput NotApplicable
+    unfolding pourMade
+    pour-vacant z = simp e (pour-none v (s .group) (no-frame v (s .group) z))
+
+    pub pour-group : (s .group .b ≡ 0 → ⊥) → pourMade v s ≡ outputs.octets (entriesOf (inTime v (s .group)))
+    unfolding pourMade
+    pour-group n = simp e (pour-all v (s .group) (group-holds n))
 
 -- ---- offering
 judge-refused : (u : Shape) (s : Session) (sequence timestamp : ℕ) (w : Reading) (r : Refusal) → contents.Refused r ≡ contentsOf w → refuse s r ≡ judged u s sequence timestamp w

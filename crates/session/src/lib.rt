@@ -12,12 +12,20 @@ use numbers::GroupNumbers;
 use numbers::Verdict;
 use payload::Contents;
 ghost use mathlib.Core.Path.{_≡_};
-ghost use Prim.Native.Nat.{_<_};
+ghost use mathlib.Core.List.{List};
+ghost use Prim.Native.Nat.{ℕ, _*_, _<_};
+ghost use lib.ListN.{length};
+ghost use Rattle.octets.specs.Octets.{over};
 ghost use Rattle.answers.specs.Outputs.{Writes};
 ghost use Rattle.form.specs.Agreed.{voiceFor, defaultForm};
 ghost use Rattle.frame.specs.Shape.{holdingShape};
-ghost use Rattle.session.specs.Session.{vacant, neverOpened, formRight, openedFor, lastRight, groupRight, isOpen, refuse};
-ghost use Rattle.session.specs.Session.{accept, withGroup, lastNumbers, groupBefore, begins, belongs, placed, received};
+ghost use Rattle.bundle.specs.Bundles.{sameBundles};
+ghost use Rattle.bundle.specs.LaidOut.{laid};
+ghost use Rattle.numbers.specs.Place.{decided};
+ghost use Rattle.holding.specs.Group.{Spans, nothing, bundleOf, bundleAt};
+ghost use Rattle.session.specs.Session.{vacant, neverOpened, fresh, formRight, openedFor, lastRight, groupRight, isOpen, refuse};
+ghost use Rattle.session.specs.Standing.{whole, Stands, Fits, framesOf, offeredIn, decidedAs, begunWith, holdingAlso};
+ghost use Rattle.session.specs.Standing.{beforeOf, placedAs, decisionOf};
 ghost use Rattle.session.specs.Session.{offered, pourMade, ended, afterPour, noCopy, copied};
 ghost use Rattle.session.specs.Session.{notDropped, dropped};
 
@@ -35,7 +43,43 @@ pub struct Session {
     pub last_b: u8,
 }
 
-// A packet that was read, with the numbers of its group.
+// All of a session but the types and the bodies of its group, which lie in arrays that are lent beside it: so it is handed on
+// without moving them. The numbers are those of the held group, zeros where none is; `last` are those of the last poured one.
+pub struct Standing {
+    pub open: bool,
+    pub source: u32,
+    pub form: Form,
+    pub group_source: u32,
+    pub numbers: GroupNumbers,
+    pub held: [bool; 8],
+    pub poured: bool,
+    pub last: GroupNumbers,
+}
+
+// What is decided of a packet before a frame of it is copied: it begins a group, after so many lost frames; it is put into the
+// held group; its packet is held already; or the refusal.
+pub enum Decision {
+    Begins {
+        numbers: GroupNumbers,
+        n: u8,
+        lost: usize,
+    },
+    PutIn {
+        n: u8,
+    },
+    Again {
+        n: u8,
+    },
+    Refused(Refusal),
+}
+
+// What an offer answers, and the session after it, all but the types and the bodies of its group.
+pub struct Stood {
+    pub answer: Taken,
+    pub standing: Standing,
+}
+
+// A packet that was read, with the numbers of its group and its frames laid out, as the definitions speak of it.
 pub struct Arrival {
     pub numbers: GroupNumbers,
     pub n: u8,
@@ -200,120 +244,306 @@ fn refused(session: Session, reason: Refusal) -> Offered
     }
 }
 
-// An accepted offer: the session after it, and the lost frames before it.
-fn accepted(session: Session, lost: usize) -> Offered
-    ensures { λ r. ⌜ r ≡ accept session lost ⌝ }
-{
-    Offered {
-        answer: Taken::Accepted(lost),
-        session,
-    }
-}
+// ---- an open session in parts: its types and bodies are changed in place
 
-// The session with another group held.
-fn with_group(session: Session, group: Holding) -> Session
-    ensures { λ r. ⌜ r ≡ withGroup session group ⌝ }
+// All of a session but the types and the bodies of its group.
+fn standing_of(session: Session) -> Standing
+    ensures { λ r. ⌜ (whole r (session .group .marks) (session .group .room) ≡ session) × Spans holdingShape (r .held) (session .group .marks) (session .group .room) ⌝ }
 {
-    let mut next = session;
-    next.group = group;
-    next
-}
-
-// The numbers of the last poured group.
-fn last_numbers(session: Session) -> GroupNumbers
-    ensures { λ r. ⌜ r ≡ lastNumbers session ⌝ }
-{
-    GroupNumbers {
+    let form = session.form;
+    let group = session.group;
+    let numbers = holding::numbers_of(group);
+    let held = group.held;
+    let last = GroupNumbers {
         sequence: session.last_sequence,
         timestamp: session.last_timestamp,
         l: session.last_l,
         b: session.last_b,
+    };
+    Standing {
+        open: session.open,
+        source: session.source,
+        form,
+        group_source: group.source,
+        numbers,
+        held,
+        poured: session.poured,
+        last,
     }
 }
 
-// The group that a packet comes after: the one that is held, the last one poured, or none.
-fn group_before(session: Session) -> Before
-    ensures { λ r. ⌜ r ≡ groupBefore holdingShape session ⌝ }
+// The session put together again.
+fn put_together(standing: Standing, marks: [u8; 80], room: [u8; 1760]) -> Session
+    ensures { λ r. ⌜ r ≡ whole standing marks room ⌝ }
 {
-    let group = session.group;
-    let vacant = holding::is_nothing(group);
-    if !vacant {
-        return Before::Held(holding::numbers_of(group));
+    let form = standing.form;
+    let numbers = standing.numbers;
+    let last = standing.last;
+    let held = standing.held;
+    let group = Holding {
+        source: standing.group_source,
+        sequence: numbers.sequence,
+        timestamp: numbers.timestamp,
+        l: numbers.l,
+        b: numbers.b,
+        held,
+        marks,
+        room,
+    };
+    Session {
+        open: standing.open,
+        source: standing.source,
+        form,
+        group,
+        poured: standing.poured,
+        last_sequence: last.sequence,
+        last_timestamp: last.timestamp,
+        last_l: last.l,
+        last_b: last.b,
     }
-    if session.poured {
-        return Before::Poured(last_numbers(session));
+}
+
+// The group that a packet comes after: the one that is held, the last one poured, or none. A held group has a frame to a packet.
+fn group_before(standing: Standing) -> Before
+    ensures { λ r. ⌜ r ≡ beforeOf standing ⌝ }
+{
+    let numbers = standing.numbers;
+    if numbers.b != 0 {
+        return Before::Held(numbers);
+    }
+    if standing.poured {
+        let last = standing.last;
+        return Before::Poured(last);
     }
     Before::Nothing
 }
 
-// A packet that begins a group.
-fn begin_group(session: Session, arrival: Arrival, lost: usize) -> Offered
-    requires { ⌜ arrival .n < 8 ⌝ }
-    ensures { λ r. ⌜ r ≡ begins holdingShape session arrival lost ⌝ }
+// What is decided of a packet that was read: its numbers decide.
+fn decide_place(standing: Standing, numbers: GroupNumbers, n: u8) -> Decision
+    requires { ⌜ n < 8 ⌝ }
+    ensures { λ r. ⌜ r ≡ placedAs standing numbers n (decided (beforeOf standing) numbers) ⌝ }
 {
-    let numbers = arrival.numbers;
-    let none = holding::begin(session.source, numbers);
-    let n = arrival.n as usize;
-    let group = holding::with_packet(none, n, arrival.packet);
-    accepted(with_group(session, group), lost)
-}
-
-// A packet that belongs to the held group: put in, the same again, or another than the one that is held.
-fn belongs(session: Session, arrival: Arrival) -> Offered
-    requires { ⌜ arrival .n < 8 ⌝ }
-    ensures { λ r. ⌜ r ≡ belongs holdingShape session arrival ⌝ }
-{
-    let group = session.group;
-    let n = arrival.n as usize;
-    let held = holding::is_held(group, n);
-    if held {
-        let same = holding::same_packet(group, n, arrival.packet);
-        if same {
-            return accepted(session, 0);
-        }
-        return refused(session, Refusal::PacketDiffers);
-    }
-    let more = holding::with_packet(group, n, arrival.packet);
-    accepted(with_group(session, more), 0)
-}
-
-// The place of a packet that was read: its numbers decide.
-fn place(session: Session, arrival: Arrival) -> Offered
-    requires { ⌜ arrival .n < 8 ⌝ }
-    ensures { λ r. ⌜ r ≡ placed holdingShape session arrival ⌝ }
-{
-    let numbers = arrival.numbers;
-    let before = group_before(session);
+    let before = group_before(standing);
     let verdict = numbers::decide(before, numbers);
     match verdict {
-        Verdict::Begins(lost) => begin_group(session, arrival, lost),
-        Verdict::Belongs => belongs(session, arrival),
-        Verdict::Refused(reason) => refused(session, reason),
+        Verdict::Begins(lost) => Decision::Begins { numbers, n, lost },
+        Verdict::Belongs => {
+            let held = standing.held;
+            if held[n as usize] {
+                return Decision::Again { n };
+            }
+            Decision::PutIn { n }
+        }
+        Verdict::Refused(reason) => Decision::Refused(reason),
     }
 }
 
-// What an open session makes of a packet.
-fn receive(session: Session, source: u32, sequence: u16, timestamp: u32, payload: &[u8]) -> Offered
-    ensures { λ r. ⌜ r ≡ received (voiceFor (session .form)) session source sequence timestamp (now (payload .entry)) ⌝ }
+// internal: for a session that is known to be open.
+// What is decided of a packet: its source, its payload and its place are judged, and nothing is copied.
+pub fn decide(
+    standing: Standing,
+    source: u32,
+    sequence: u16,
+    timestamp: u32,
+    payload: &[u8],
+) -> Decision
+    ensures { λ r. ⌜ r ≡ decisionOf standing source sequence timestamp (now (payload .entry)) ⌝ }
 {
-    if source != session.source {
-        return refused(session, Refusal::AnotherSource);
+    if source != standing.source {
+        return Decision::Refused(Refusal::AnotherSource);
     }
-    let form = session.form;
+    let form = standing.form;
     let contents = payload::read(form, payload);
     match contents {
-        Contents::Refused(reason) => refused(session, reason),
+        Contents::Refused(reason) => Decision::Refused(reason),
         Contents::Packet { l, n, b, d: _ } => {
-            let packet = payload::lay_out(form, payload);
             let numbers = GroupNumbers {
                 sequence: numbers::base_sequence(sequence, n),
                 timestamp: numbers::base_timestamp(timestamp, n),
                 l,
                 b,
             };
-            let arrival = Arrival { numbers, n, packet };
-            place(session, arrival)
+            decide_place(standing, numbers, n)
         }
+    }
+}
+
+// internal: for a packet that begins a group in a session that holds none.
+// All but its types and bodies, with a group begun of which packet n alone is held.
+pub fn begin_group(standing: Standing, numbers: GroupNumbers, n: u8) -> Standing
+    requires { ⌜ n < 8 ⌝ }
+    ensures { λ r. ⌜ r ≡ begunWith standing numbers n ⌝ }
+{
+    let form = standing.form;
+    let last = standing.last;
+    let mut held = [false; 8];
+    held[n as usize] = true;
+    Standing {
+        open: standing.open,
+        source: standing.source,
+        form,
+        group_source: standing.source,
+        numbers,
+        held,
+        poured: standing.poured,
+        last,
+    }
+}
+
+// internal: for a packet that is put into the held group.
+// All but its types and bodies, with packet n held too.
+pub fn hold_packet(standing: Standing, n: u8) -> Standing
+    requires { ⌜ n < 8 ⌝ }
+    ensures { λ r. ⌜ r ≡ holdingAlso standing n ⌝ }
+{
+    let mut next = standing;
+    let mut held = standing.held;
+    held[n as usize] = true;
+    next.held = held;
+    next
+}
+
+// Lays the b frames of a payload out as packet n, in place.
+fn lay_in(form: Form, payload: &[u8], b: u8, n: u8, marks: &mut [u8], room: &mut [u8])
+    requires { ⌜ (b ≡ length (framesOf form (now payload)))
+        × (n < 8)
+        × (length (now marks) ≡ 80)
+        × (length (now room) ≡ 1760) ⌝ }
+    ensures { λ _. ⌜ (now (marks .exit) ≡ over (now (marks .entry)) (10 * n) (laid holdingShape (framesOf form (now (payload .entry))) .marks))
+        × (now (room .exit) ≡ over (now (room .entry)) (220 * n) (laid holdingShape (framesOf form (now (payload .entry))) .room)) ⌝ }
+{
+    let index = n as usize;
+    let at = 10 * index;
+    let from = 220 * index;
+    payload::lay_frames(
+        form,
+        payload,
+        b,
+        &mut marks[at..at + 10],
+        &mut room[from..from + 220],
+    );
+}
+
+// Whether packet n that is held has the frames of a payload.
+fn has_frames(form: Form, payload: &[u8], n: u8, marks: &[u8], room: &[u8]) -> bool
+    requires { ⌜ (n < 8) × (length (now marks) ≡ 80) × (length (now room) ≡ 1760) ⌝ }
+    ensures { λ r. ⌜ r ≡ sameBundles (bundleOf holdingShape (now (marks .entry)) (now (room .entry)) n) (laid holdingShape (framesOf form (now (payload .entry)))) ⌝ }
+{
+    let packet = payload::lay_out(form, payload);
+    let other_marks = packet.marks;
+    let other_room = packet.room;
+    let index = n as usize;
+    let at = 10 * index;
+    let from = 220 * index;
+    bundle::same_bundles(
+        &marks[at..at + 10],
+        &room[from..from + 220],
+        &other_marks,
+        &other_room,
+    )
+}
+
+// A packet that is held already: accepted if it has the same frames, else 14.
+fn again(form: Form, payload: &[u8], n: u8, marks: &[u8], room: &[u8]) -> Taken
+    requires { ⌜ (n < 8) × (length (now marks) ≡ 80) × (length (now room) ≡ 1760) ⌝ }
+    ensures { λ r. ⌜ ((s : Session) → bundleAt holdingShape (s .group) n ≡ bundleOf holdingShape (now (marks .entry)) (now (room .entry)) n
+        → record { answer = r; session = s } ≡ decidedAs s (framesOf form (now (payload .entry))) (Decision.Again n)) ⌝ }
+{
+    let same = has_frames(form, payload, n, marks, room);
+    if same {
+        return Taken::Accepted(0);
+    }
+    Taken::Refused(Refusal::PacketDiffers)
+}
+
+// internal: for a session that is known to be open, and what was decided of the packet there.
+// What becomes of the packet: its frames are laid out in place, or nothing changes.
+pub fn take(
+    standing: Standing,
+    decision: Decision,
+    payload: &[u8],
+    marks: &mut [u8],
+    room: &mut [u8],
+) -> Stood
+    requires { ⌜ Stands standing (now marks) (now room) × Fits standing (framesOf (standing .form) (now payload)) decision ⌝ }
+    ensures { λ r. ⌜ offeredIn r (now (marks .exit)) (now (room .exit))
+        ≡ decidedAs (whole standing (now (marks .entry)) (now (room .entry))) (framesOf (standing .form) (now (payload .entry))) decision ⌝ }
+{
+    let form = standing.form;
+    let group = standing.numbers;
+    match decision {
+        Decision::Refused(reason) => Stood {
+            answer: Taken::Refused(reason),
+            standing,
+        },
+        Decision::Begins { numbers, n, lost } => {
+            lay_in(form, payload, numbers.b, n, marks, room);
+            Stood {
+                answer: Taken::Accepted(lost),
+                standing: begin_group(standing, numbers, n),
+            }
+        }
+        Decision::PutIn { n } => {
+            lay_in(form, payload, group.b, n, marks, room);
+            Stood {
+                answer: Taken::Accepted(0),
+                standing: hold_packet(standing, n),
+            }
+        }
+        Decision::Again { n } => Stood {
+            answer: again(form, payload, n, marks, room),
+            standing,
+        },
+    }
+}
+
+// internal: for a session that is known to be open and holds a group.
+// All but its types and bodies, after its group was poured: its numbers are remembered.
+pub fn end_group(standing: Standing) -> Standing
+    ensures { λ r. ⌜ ((ms rs : List ℕ) → whole r (nothing holdingShape .marks) (nothing holdingShape .room) ≡ ended holdingShape (whole standing ms rs)) ⌝ }
+{
+    let form = standing.form;
+    let last = standing.numbers;
+    let held = [false; 8];
+    let numbers = GroupNumbers {
+        sequence: 0,
+        timestamp: 0,
+        l: 0,
+        b: 0,
+    };
+    Standing {
+        open: standing.open,
+        source: standing.source,
+        form,
+        group_source: 0,
+        numbers,
+        held,
+        poured: true,
+        last,
+    }
+}
+
+// internal: beside a session that was just opened.
+// All of a session opened for a source in a form, but its types and bodies.
+pub fn fresh(source: u32, form: Form) -> Standing
+    ensures { λ r. ⌜ whole r (nothing holdingShape .marks) (nothing holdingShape .room) ≡ fresh holdingShape source form ⌝ }
+{
+    let held = [false; 8];
+    let none = GroupNumbers {
+        sequence: 0,
+        timestamp: 0,
+        l: 0,
+        b: 0,
+    };
+    Standing {
+        open: true,
+        source,
+        form,
+        group_source: 0,
+        numbers: none,
+        held,
+        poured: false,
+        last: none,
     }
 }
 
@@ -331,7 +561,19 @@ pub fn offer(
     if !ready {
         return refused(session, Refusal::NotApplicable);
     }
-    receive(session, source, sequence, timestamp, payload)
+    let standing = standing_of(session);
+    let decision = decide(standing, source, sequence, timestamp, payload);
+    let group = session.group;
+    let mut marks = group.marks;
+    let mut room = group.room;
+    let stood = take(standing, decision, payload, &mut marks, &mut room);
+    let after = stood.standing;
+    let answer = stood.answer;
+    let next = put_together(after, marks, room);
+    Offered {
+        answer,
+        session: next,
+    }
 }
 
 // The session after its group was poured.
@@ -367,7 +609,13 @@ pub fn pour(session: Session, out: &mut [u8]) -> Poured
         };
     }
     let group = session.group;
-    let written = pouring::pour(group, out);
+    if group.b == 0 {
+        return Poured {
+            answer: Written::Refused(Refusal::NotApplicable),
+            session,
+        };
+    }
+    let written = pouring::pour_held(group, out);
     match written {
         Written::Refused(reason) => Poured {
             answer: Written::Refused(reason),

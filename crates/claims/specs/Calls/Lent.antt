@@ -31,6 +31,11 @@ pub record LentLNBD : Type 0 where
 pub record LentLost : Type 0 where
   pub lost : ℕ
 
+-- marks, room
+pub record LentMarksRoom : Type 0 where
+  pub marks : List ℕ
+  pub room : List ℕ
+
 -- out
 pub record LentOut : Type 0 where
   pub out : List ℕ

@@ -8,6 +8,7 @@ use Rattle.frame.specs.declared.Located.{Located}
 use Rattle.payload.specs.declared.Contents.{Contents}
 use Rattle.payload.proofs as contracts
 use Rattle.claims.specs.Call.{Call}
+use Rattle.claims.specs.Calls.Lent.{LentMarksRoom}
 
 -- read(form: Form, payload: &[u8]) -> Contents
 abbrev pub read : Call
@@ -71,6 +72,22 @@ body = record {
   Lent = Unit {0};
   lent = λ κs a. tt;
   left = λ κs s. tt;
+}
+
+-- lay_frames(form: Form, payload: &[u8], b: u8, marks: &mut [u8], room: &mut [u8])
+abbrev pub layFrames : Call
+layFrames = record {
+  lifetimes = 3;
+  parameters = contracts.lay_frames.Kinds.ps;
+  result = contracts.lay_frames.Kinds.r;
+  allows = contracts.lay_frames.Reads.Post;
+  Answer = Unit {0};
+  answer = λ κs x. x;
+  Given = Form × (List ℕ × ℕ);
+  given = λ κs a. (a .0, (now (a .1 .0), a .1 .1 .0));
+  Lent = LentMarksRoom;
+  lent = λ κs a. record { marks = now (a .1 .1 .1 .0); room = now (a .1 .1 .1 .1 .0) };
+  left = λ κs s. record { marks = now (s .1 .1 .1 .0); room = now (s .1 .1 .1 .1 .0) };
 }
 
 -- lay_out(form: Form, payload: &[u8]) -> Bundle

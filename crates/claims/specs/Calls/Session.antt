@@ -4,15 +4,19 @@ use mathlib.Core.Bool.{Bool}
 use mathlib.Core.List.{List}
 use denote.Ref.{now}
 use Rattle.form.specs.declared.Form.{Form}
+use Rattle.numbers.specs.declared.GroupNumbers.{GroupNumbers}
 use Rattle.session.specs.declared.Copied.{Copied}
+use Rattle.session.specs.declared.Decision.{Decision}
 use Rattle.session.specs.declared.Dropped.{Dropped}
 use Rattle.session.specs.declared.Offered.{Offered}
 use Rattle.session.specs.declared.Poured.{Poured}
 use Rattle.session.specs.declared.Session.{Session}
+use Rattle.session.specs.declared.Standing.{Standing}
 use Rattle.session.specs.declared.Started.{Started}
+use Rattle.session.specs.declared.Stood.{Stood}
 use Rattle.session.proofs as contracts
 use Rattle.claims.specs.Call.{Call}
-use Rattle.claims.specs.Calls.Lent.{LentOut}
+use Rattle.claims.specs.Calls.Lent.{LentMarksRoom, LentOut}
 
 -- never_opened() -> Session
 abbrev pub neverOpened : Call
@@ -73,6 +77,102 @@ isOpen = record {
   answer = λ κs x. x;
   Given = Session;
   given = λ κs a. a .0;
+  Lent = Unit {0};
+  lent = λ κs a. tt;
+  left = λ κs s. tt;
+}
+
+-- decide(standing: Standing, source: u32, sequence: u16, timestamp: u32, payload: &[u8]) -> Decision
+abbrev pub decide : Call
+decide = record {
+  lifetimes = 1;
+  parameters = contracts.decide.Kinds.ps;
+  result = contracts.decide.Kinds.r;
+  allows = contracts.decide.Reads.Post;
+  Answer = Decision;
+  answer = λ κs x. x;
+  Given = Standing × (ℕ × (ℕ × (ℕ × List ℕ)));
+  given = λ κs a. (a .0, (a .1 .0, (a .1 .1 .0, (a .1 .1 .1 .0, now (a .1 .1 .1 .1 .0)))));
+  Lent = Unit {0};
+  lent = λ κs a. tt;
+  left = λ κs s. tt;
+}
+
+-- begin_group(standing: Standing, numbers: GroupNumbers, n: u8) -> Standing
+abbrev pub beginGroup : Call
+beginGroup = record {
+  lifetimes = 0;
+  parameters = contracts.begin_group.Kinds.ps;
+  result = contracts.begin_group.Kinds.r;
+  allows = contracts.begin_group.Reads.Post;
+  Answer = Standing;
+  answer = λ κs x. x;
+  Given = Standing × (GroupNumbers × ℕ);
+  given = λ κs a. (a .0, (a .1 .0, a .1 .1 .0));
+  Lent = Unit {0};
+  lent = λ κs a. tt;
+  left = λ κs s. tt;
+}
+
+-- hold_packet(standing: Standing, n: u8) -> Standing
+abbrev pub holdPacket : Call
+holdPacket = record {
+  lifetimes = 0;
+  parameters = contracts.hold_packet.Kinds.ps;
+  result = contracts.hold_packet.Kinds.r;
+  allows = contracts.hold_packet.Reads.Post;
+  Answer = Standing;
+  answer = λ κs x. x;
+  Given = Standing × ℕ;
+  given = λ κs a. (a .0, a .1 .0);
+  Lent = Unit {0};
+  lent = λ κs a. tt;
+  left = λ κs s. tt;
+}
+
+-- take(standing: Standing, decision: Decision, payload: &[u8], marks: &mut [u8], room: &mut [u8]) -> Stood
+abbrev pub take : Call
+take = record {
+  lifetimes = 3;
+  parameters = contracts.take.Kinds.ps;
+  result = contracts.take.Kinds.r;
+  allows = contracts.take.Reads.Post;
+  Answer = Stood;
+  answer = λ κs x. x;
+  Given = Standing × (Decision × List ℕ);
+  given = λ κs a. (a .0, (a .1 .0, now (a .1 .1 .0)));
+  Lent = LentMarksRoom;
+  lent = λ κs a. record { marks = now (a .1 .1 .1 .0); room = now (a .1 .1 .1 .1 .0) };
+  left = λ κs s. record { marks = now (s .1 .1 .1 .0); room = now (s .1 .1 .1 .1 .0) };
+}
+
+-- end_group(standing: Standing) -> Standing
+abbrev pub endGroup : Call
+endGroup = record {
+  lifetimes = 0;
+  parameters = contracts.end_group.Kinds.ps;
+  result = contracts.end_group.Kinds.r;
+  allows = contracts.end_group.Reads.Post;
+  Answer = Standing;
+  answer = λ κs x. x;
+  Given = Standing;
+  given = λ κs a. a .0;
+  Lent = Unit {0};
+  lent = λ κs a. tt;
+  left = λ κs s. tt;
+}
+
+-- fresh(source: u32, form: Form) -> Standing
+abbrev pub fresh : Call
+fresh = record {
+  lifetimes = 0;
+  parameters = contracts.fresh.Kinds.ps;
+  result = contracts.fresh.Kinds.r;
+  allows = contracts.fresh.Reads.Post;
+  Answer = Standing;
+  answer = λ κs x. x;
+  Given = ℕ × Form;
+  given = λ κs a. (a .0, a .1 .0);
   Lent = Unit {0};
   lent = λ κs a. tt;
   left = λ κs s. tt;

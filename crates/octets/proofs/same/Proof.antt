@@ -1,18 +1,20 @@
--- `octets::same` meets its contract. The invariant: what is left from i on decides.
+-- `octets::same` meets its contract. The invariant: what was found so far, and what is left from i on, decide.
 use Prim.Native.Nat.{_-_, _≤_}
+use mathlib.Core.Bool.{_&&_}
 use mathlib.Core.Path.{_≡_, refl, sym}
 use native.Mathlib.Omega.{arith}
 use lib.ListN.{length, drop}
+use borrow.Author.Needs.{needs}
 use Rattle.octets.specs.Octets.{sameOctets}
-use Rattle.octets.proofs.OctetsLaws.{same-long, same-again, same-differ, same-end}
+use Rattle.octets.proofs.OctetsLaws.{same-long, same-again, same-end}
 use Rattle.octets.proofs.same.Statement.{statement}
 use Rattle.octets.proofs.same.Tie as tie
 
 abbrev Inv-loop : tie.InvT-loop
-Inv-loop a b i₀ i = (i ≤ length a) × (sameOctets a b ≡ sameOctets (drop i a) (drop i b))
+Inv-loop a b alike₀ i₀ alike i = (i ≤ length a) × (sameOctets a b ≡ alike && sameOctets (drop i a) (drop i b))
 
 abbrev μ-loop : tie.MeasureT-loop
-μ-loop a b i₀ i = length a - i
+μ-loop a b alike₀ i₀ alike i = length a - i
 
 returns : tie.Need-returns Inv-loop μ-loop
 returns c = sym (same-long _ _ (c .if1 .taken))
@@ -20,17 +22,14 @@ returns c = sym (same-long _ _ (c .if1 .taken))
 loop-holds : tie.Need-loop-holds Inv-loop μ-loop
 loop-holds c = (omega arith, refl)
 
-shared-slice-read-if2 : tie.Need-shared-slice-read-if2 Inv-loop μ-loop
-shared-slice-read-if2 c = omega arith
+shared-slice-read-still : tie.Need-shared-slice-read-still Inv-loop μ-loop
+shared-slice-read-still c = omega arith
 
-shared-slice-read-if2-2 : tie.Need-shared-slice-read-if2-2 Inv-loop μ-loop
-shared-slice-read-if2-2 c = omega arith
+shared-slice-read-still-2 : tie.Need-shared-slice-read-still-2 Inv-loop μ-loop
+shared-slice-read-still-2 c = omega arith
 
-returns-2 : tie.Need-returns-2 Inv-loop μ-loop
-returns-2 c =
-    let at-there = c .before .before .before .before in
-    let lp = at-there in
-    same-differ _ _ (lp .loop .i) (lp .loop .inv .1) (omega arith) (omega arith) (c .if2 .taken)
+still-requires : tie.Need-still-requires Inv-loop μ-loop
+still-requires c κs = search needs
 
 add-i : tie.Need-add-i Inv-loop μ-loop
 add-i c = omega arith
@@ -40,12 +39,11 @@ loop-less c = omega arith
 
 loop-again : tie.Need-loop-again Inv-loop μ-loop
 loop-again c =
-    let at-there = c .before .before .before .before in
-    let lp = at-there in
-    (omega arith, same-again _ _ (lp .loop .i) (lp .loop .inv .1) (omega arith) (omega arith) (c .if2 .left))
+    let at-loop = c .before .before .before .before in
+    (omega arith, rw (c .still .ensures) (same-again _ _ (at-loop .loop .i) _ (at-loop .loop .inv .1) (omega arith) (omega arith)))
 
-returns-3 : tie.Need-returns-3 Inv-loop μ-loop
-returns-3 c = same-end _ _ (c .before .loop .i) (c .before .loop .inv .1) (c .before .before .if1 .left) (c .loop-test .left)
+returns-2 : tie.Need-returns-2 Inv-loop μ-loop
+returns-2 c = same-end _ _ (c .before .loop .i) _ (c .before .loop .inv .1) (c .before .before .if1 .left) (c .loop-test .left)
 
 pub same-spec : {M : Type 1} → statement M
 same-spec =
@@ -55,10 +53,10 @@ same-spec =
     μ-loop
     returns
     loop-holds
-    shared-slice-read-if2
-    shared-slice-read-if2-2
-    returns-2
+    shared-slice-read-still
+    shared-slice-read-still-2
+    still-requires
     add-i
     loop-less
     loop-again
-    returns-3)
+    returns-2)

@@ -1,29 +1,29 @@
--- `octets::zeros` meets its contract. The invariant: what is left from i on decides.
+-- `octets::zeros` meets its contract. The invariant: what was found so far, and what is left from i on, decide.
 use Prim.Native.Nat.{_-_, _≤_}
+use mathlib.Core.Bool.{_&&_}
 use mathlib.Core.Path.{_≡_, refl}
 use native.Mathlib.Omega.{arith}
 use lib.ListN.{length, drop}
+use borrow.Author.Needs.{needs}
 use Rattle.octets.specs.Octets.{allZero}
-use Rattle.octets.proofs.OctetsLaws.{zero-again, zero-differ, zero-end}
+use Rattle.octets.proofs.OctetsLaws.{zero-again, zero-end}
 use Rattle.octets.proofs.zeros.Statement.{statement}
 use Rattle.octets.proofs.zeros.Tie as tie
 
 abbrev Inv-loop : tie.InvT-loop
-Inv-loop s i₀ i = (i ≤ length s) × (allZero s ≡ allZero (drop i s))
+Inv-loop s clear₀ i₀ clear i = (i ≤ length s) × (allZero s ≡ clear && allZero (drop i s))
 
 abbrev μ-loop : tie.MeasureT-loop
-μ-loop s i₀ i = length s - i
+μ-loop s clear₀ i₀ clear i = length s - i
 
 loop-holds : tie.Need-loop-holds Inv-loop μ-loop
 loop-holds c = (omega arith, refl)
 
-shared-slice-read-if1 : tie.Need-shared-slice-read-if1 Inv-loop μ-loop
-shared-slice-read-if1 c = omega arith
+shared-slice-read-still : tie.Need-shared-slice-read-still Inv-loop μ-loop
+shared-slice-read-still c = omega arith
 
-returns : tie.Need-returns Inv-loop μ-loop
-returns c =
-    let at-loop = c .before .before .before in
-    zero-differ _ (at-loop .loop .i) (at-loop .loop .inv .1) (omega arith) (c .if1 .taken)
+still-requires : tie.Need-still-requires Inv-loop μ-loop
+still-requires c κs = search needs
 
 add-i : tie.Need-add-i Inv-loop μ-loop
 add-i c = omega arith
@@ -34,10 +34,10 @@ loop-less c = omega arith
 loop-again : tie.Need-loop-again Inv-loop μ-loop
 loop-again c =
     let at-loop = c .before .before .before in
-    (omega arith, zero-again _ (at-loop .loop .i) (at-loop .loop .inv .1) (omega arith) (c .if1 .left))
+    (omega arith, rw (c .still .ensures) (zero-again _ (at-loop .loop .i) _ (at-loop .loop .inv .1) (omega arith)))
 
-returns-2 : tie.Need-returns-2 Inv-loop μ-loop
-returns-2 c = zero-end _ (c .before .loop .i) (c .before .loop .inv .1) (c .loop-test .left)
+returns : tie.Need-returns Inv-loop μ-loop
+returns c = zero-end _ (c .before .loop .i) _ (c .before .loop .inv .1) (c .loop-test .left)
 
 pub zeros-spec : {M : Type 1} → statement M
 zeros-spec =
@@ -46,9 +46,9 @@ zeros-spec =
     Inv-loop
     μ-loop
     loop-holds
-    shared-slice-read-if1
-    returns
+    shared-slice-read-still
+    still-requires
     add-i
     loop-less
     loop-again
-    returns-2)
+    returns)

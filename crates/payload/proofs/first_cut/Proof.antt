@@ -1,73 +1,89 @@
--- `payload::first_cut` meets its contract. The invariant: from body i on, which begins at `start`, the first that does not fit is that of
--- all. Assumes nothing.
+-- `payload::first_cut` meets its contract. The invariant: the bodies before body j fit. Assumes nothing.
 use Prim.Native.Nat.{_+_, _-_, _≤_, _<_}
-use mathlib.Core.List.{map}
-use mathlib.Core.Path.{_≡_, refl, sym, ap, _∙_}
+use mathlib.Core.Path.{_≡_}
 use native.Mathlib.Omega.{arith}
-use lib.ListN.{length, drop, take}
+use lib.ListN.{getD}
 use denote.Ref.{now}
-use borrow.Author.Needs.{needs}
-use Rattle.frame.specs.FrameTable.{rowsOf}
-use Rattle.frame.specs.Entry.{typeOf}
-use Rattle.payload.specs.Payload.{firstCut}
-use Rattle.payload.proofs.Cutting.{all-fit, cut-here, fits-here}
+use Rattle.payload.proofs.Cutting.{first-here}
 use Rattle.payload.proofs.first_cut.Statement.{statement}
 use Rattle.payload.proofs.first_cut.Tie as tie
 
 abbrev Inv-loop : tie.InvT-loop
-Inv-loop vocoder payload count start₀ i₀ start i =
-    (i ≤ count) × (start ≤ length payload) × (count < length payload) ×
-    (firstCut (rowsOf vocoder) start (drop i (take count (map typeOf (drop 1 payload)))) (drop start payload)
-    ≡ firstCut (rowsOf vocoder) (1 + count) (take count (map typeOf (drop 1 payload))) (drop (1 + count) payload))
+Inv-loop payload count sums left j₀ j = (j < count) × (getD sums j 0 ≤ left)
 
 abbrev μ-loop : tie.MeasureT-loop
-μ-loop vocoder payload count start₀ i₀ start i = count - i
+μ-loop payload count sums left j₀ j = count - j
 
-add-start : tie.Need-add-start Inv-loop μ-loop
-add-start c = omega arith
+sub-left : tie.Need-sub-left Inv-loop μ-loop
+sub-left c = omega arith
+
+sub-left-2 : tie.Need-sub-left-2 Inv-loop μ-loop
+sub-left-2 c = omega arith
 
 loop-holds : tie.Need-loop-holds Inv-loop μ-loop
-loop-holds c = (omega arith, omega arith, omega arith, refl)
+loop-holds c = (omega arith, omega arith)
 
-add-at : tie.Need-add-at Inv-loop μ-loop
-add-at c = omega arith
+add-loop : tie.Need-add-loop Inv-loop μ-loop
+add-loop c = omega arith
 
-shared-slice-read-body-size : tie.Need-shared-slice-read-body-size Inv-loop μ-loop
-shared-slice-read-body-size c = omega arith
+add-if1 : tie.Need-add-if1 Inv-loop μ-loop
+add-if1 c = omega arith
 
-body-size-requires : tie.Need-body-size-requires Inv-loop μ-loop
-body-size-requires c κs = search needs
+mul-if1 : tie.Need-mul-if1 Inv-loop μ-loop
+mul-if1 c = omega arith
 
-sub-if1 : tie.Need-sub-if1 Inv-loop μ-loop
-sub-if1 c = omega arith
+shared-slice-read-if1 : tie.Need-shared-slice-read-if1 Inv-loop μ-loop
+shared-slice-read-if1 c = omega arith
+
+add-result : tie.Need-add-result Inv-loop μ-loop
+add-result c = omega arith
+
+mul-result : tie.Need-mul-result Inv-loop μ-loop
+mul-result c = omega arith
+
+shared-slice-read-result : tie.Need-shared-slice-read-result Inv-loop μ-loop
+shared-slice-read-result c = omega arith
+
+add-result-2 : tie.Need-add-result-2 Inv-loop μ-loop
+add-result-2 c = omega arith
 
 returns : tie.Need-returns Inv-loop μ-loop
 returns c =
     let at-loop = c .before .before .before .before in
-    let start = at-loop .before .before in
-    let short = rw (c .before .body-size .ensures) at (c .if1 .taken) in
-    sym (cut-here _ (now (start .args .payload)) _ (at-loop .loop .inv .2) _ _ (c .before .before .before .loop-test .taken) short) ∙ at-loop .loop .inv .3
+    let start = at-loop .before in
+    λ v h k.
+    first-here v (now (start .args .payload)) (now (start .args .sums)) _ _ h (start .pre .1) (at-loop .loop .inv .0) (at-loop .loop .inv .1)
+    (rw (h _ (c .before .before .before .loop-test .taken)) at (c .before .if1 .taken))
 
-add-start-2 : tie.Need-add-start-2 Inv-loop μ-loop
-add-start-2 c = omega arith
+add-j : tie.Need-add-j Inv-loop μ-loop
+add-j c = omega arith
 
 loop-less : tie.Need-loop-less Inv-loop μ-loop
 loop-less c = omega arith
 
 loop-again : tie.Need-loop-again Inv-loop μ-loop
-loop-again c =
-    let at-loop = c .before .before .before .before in
-    let start = at-loop .before .before in
-    let whole = rw (c .before .body-size .ensures) at (c .if1 .left) in
-    let e = fits-here _ (now (start .args .payload)) (start .args .count) (at-loop .loop .inv .2) (at-loop .loop .start) (at-loop .loop .i)
-    (c .before .before .before .loop-test .taken) whole in
-    (omega arith, omega arith, at-loop .loop .inv .2, rw (c .before .body-size .ensures) (sym e ∙ at-loop .loop .inv .3))
+loop-again c = (omega arith, omega arith)
+
+add-result-3 : tie.Need-add-result-3 Inv-loop μ-loop
+add-result-3 c = omega arith
+
+mul-result-2 : tie.Need-mul-result-2 Inv-loop μ-loop
+mul-result-2 c = omega arith
+
+shared-slice-read-result-2 : tie.Need-shared-slice-read-result-2 Inv-loop μ-loop
+shared-slice-read-result-2 c = omega arith
+
+add-result-4 : tie.Need-add-result-4 Inv-loop μ-loop
+add-result-4 c = omega arith
 
 returns-2 : tie.Need-returns-2 Inv-loop μ-loop
 returns-2 c =
-    let start = c .before .before .before in
-    let done : start .args .count ≤ c .before .loop .i = omega arith in
-    sym (all-fit _ (now (start .args .payload)) _ (c .before .loop .inv .2) _ _ done) ∙ c .before .loop .inv .3
+    let at-loop = c .before .before in
+    let start = at-loop .before in
+    let e : at-loop .loop .j + 1 ≡ start .args .count = omega arith in
+    λ v h k.
+    first-here v (now (start .args .payload)) (now (start .args .sums)) (start .args .count) (at-loop .loop .j) h (start .pre .1) (at-loop .loop .inv .0) (at-loop .loop .inv .1)
+    (rw e k)
 
 pub first-cut-spec : {M : Type 1} → statement M
 first-cut-spec =
@@ -75,14 +91,23 @@ first-cut-spec =
     (tie.spec
     Inv-loop
     μ-loop
-    add-start
+    sub-left
+    sub-left-2
     loop-holds
-    add-at
-    shared-slice-read-body-size
-    body-size-requires
-    sub-if1
+    add-loop
+    add-if1
+    mul-if1
+    shared-slice-read-if1
+    add-result
+    mul-result
+    shared-slice-read-result
+    add-result-2
     returns
-    add-start-2
+    add-j
     loop-less
     loop-again
+    add-result-3
+    mul-result-2
+    shared-slice-read-result-2
+    add-result-4
     returns-2)

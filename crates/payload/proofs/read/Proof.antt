@@ -12,6 +12,9 @@ read-header-free-requires c κs = search needs
 enum-known-form : tie.Need-enum-known-form
 enum-known-form c = search needs
 
+slice-aggregate-read-interleaved : tie.Need-slice-aggregate-read-interleaved
+slice-aggregate-read-interleaved c = search needs
+
 read-interleaved-requires : tie.Need-read-interleaved-requires
 read-interleaved-requires c κs = search needs
 
@@ -19,7 +22,9 @@ returns : tie.Need-returns
 returns c = rw (c .before .enum-told .given .1) (c .read-header-free .ensures)
 
 returns-2 : tie.Need-returns-2
-returns-2 c = rw (c .before .before .form .given .1) (c .read-interleaved .ensures)
+returns-2 c =
+    let at-form = c .before .before .before .before in
+    rw (at-form .form .given .1) (c .before .read-interleaved .ensures .0)
 
 pub read-spec : {M : Type 1} → statement M
 read-spec =
@@ -28,6 +33,7 @@ read-spec =
     enum-told
     read-header-free-requires
     enum-known-form
+    slice-aggregate-read-interleaved
     read-interleaved-requires
     returns
     returns-2)

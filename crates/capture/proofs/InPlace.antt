@@ -27,7 +27,7 @@ use Rattle.knowledge.proofs.PutLaws.{begun-shaped}
 use Rattle.pouring.specs.Pouring.{rows, rowsSize}
 use Rattle.pouring.proofs.PouringLaws.{length-rows}
 use Rattle.session.specs.Session.{vacant, fresh, formRight, refuse, accept, begins, arrival, offered, ended}
-use Rattle.session.specs.Standing.{whole, Stands, Fits, framesOf, decidedAs, Decides}
+use Rattle.session.specs.Standing.{whole, Stands, Fits, framesOf, decidedAs, decisionOf}
 use Rattle.session.specs.declared.Session.{Session}
 use Rattle.session.specs.declared.Standing.{Standing}
 use Rattle.session.specs.declared.Decision.{Decision}
@@ -38,6 +38,7 @@ use Rattle.session.specs.declared.Taken.{Taken}
 use Rattle.session.specs.declared.Taken.the-variants.{Accepted, Refused}
 use Rattle.session.proofs.Ends.{Placed, no, again, put, first, next, Ends, refuses, places, offer-ends, fresh-open}
 use Rattle.session.proofs.SessionLaws.{group-holds, pour-vacant, pour-group, offer-open}
+use Rattle.session.proofs.StandingLaws.{Decides, decides-as}
 use Rattle.capture.specs.Capture.{Heard, countOf, startAt, heardAt, lengthAt, packetsIn}
 use Rattle.capture.specs.Run.{captureForm, captureVocoder, captureKind, firstSession, still, offeredTo, takenOf, lostIn, offering, pouredOf, pouring, isTwelve, readied, stepOf, Put, Does}
 use Rattle.capture.specs.declared.Run.{Run}
@@ -84,7 +85,7 @@ pub decides-heard : (t : Standing) (c : List ℕ) (i start source sequence times
     → timestamp ≡ fourAt c (2 + 12 * i + 6)
     → size ≡ twoAt c (2 + 12 * i + 10)
     → start ≡ startAt c i
-    → Decides t source sequence timestamp (take (start + size - start) (drop start c)) d
+    → d ≡ decisionOf t source sequence timestamp (take (start + size - start) (drop start c))
     → DecidesOf t (heardAt c i) d
 unfolding heardAt
 decides-heard t c i start source sequence timestamp size d e f g h q x =
@@ -147,13 +148,16 @@ unfolding heardAt
 heard-payload c i start size h q = part-is c start size ∙ ap₂ (λ (k j : ℕ). take k (drop j c)) h q
 
 module _ (t : Standing) (ms rs : List ℕ) (h : Stands t ms rs) (k : Heard) (d : Decision) (x : DecidesOf t k d) where
+  worth : Decides t (k .source) (k .sequence) (k .timestamp) (k .payload) d
+  worth = decides-as t (k .source) (k .sequence) (k .timestamp) (k .payload) d x
+
   -- what it means for the session put together
   pub decided-is : decidedAs (whole t ms rs) (framesOf (t .form) (k .payload)) d ≡ offeredTo (captureKind .table) (whole t ms rs) k
   unfolding offeredTo
-  decided-is = x .means ms rs h ∙ offer-open (voiceFor (t .form)) (whole t ms rs) (k .source) (k .sequence) (k .timestamp) (k .payload) (h .opened)
+  decided-is = worth .means ms rs h ∙ offer-open (voiceFor (t .form)) (whole t ms rs) (k .source) (k .sequence) (k .timestamp) (k .payload) (h .opened)
 
   pub fits-as : (p : List ℕ) → p ≡ k .payload → Fits t (framesOf (t .form) p) d
-  fits-as p e = subst (λ (q : List ℕ). Fits t (framesOf (t .form) q) d) (sym e) (x .fits ms rs h)
+  fits-as p e = subst (λ (q : List ℕ). Fits t (framesOf (t .form) q) d) (sym e) (worth .fits ms rs h)
 
   pub taken-as : (p : List ℕ) → p ≡ k .payload → (o : Offered) → o ≡ decidedAs (whole t ms rs) (framesOf (t .form) p) d → o ≡ offeredTo (captureKind .table) (whole t ms rs) k
   taken-as p e o q = q ∙ ap (λ (y : List ℕ). decidedAs (whole t ms rs) (framesOf (t .form) y) d) e ∙ decided-is

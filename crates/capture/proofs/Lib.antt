@@ -4,5 +4,4 @@ pub mod RunLaws
 pub mod Answering
 pub mod Staying
 pub mod InPlace
-pub mod Anew
 pub mod WeighingLaws

@@ -19,6 +19,7 @@ use Rattle.answers.specs.declared.Refusal.{Refusal}
 use Rattle.answers.specs.declared.Refusal.the-variants.{PacketDiffers}
 use Rattle.form.specs.declared.Form.{Form}
 use Rattle.payload.specs.Payload.{packet, readAs}
+use Rattle.payload.specs.Shown.{framesRead}
 use Rattle.payload.proofs.Readings.{IsPacket, read-is}
 use Rattle.payload.proofs.LayingOut.{read-fills}
 use Rattle.entries.specs.Entries.{entriesOf}
@@ -42,6 +43,7 @@ use Rattle.session.specs.declared.Offered.{Offered}
 use Rattle.session.proofs.Ends.{open-has, group-has, ended-open, Placed, no, again, put, first, next, Ends, refuses, places, offer-ends}
 use Rattle.session.proofs.SessionLaws.{group-holds, pour-vacant, pour-group}
 use Rattle.session.proofs.StandingLaws.{is-vacant}
+use Rattle.session.proofs.StandingLaws.{Decides, decides-as, PutsIn, puts-in}
 use Rattle.capture.specs.Capture.{Heard, countOf, lengthAt, startAt, heardAt, packetsIn, good}
 use Rattle.capture.specs.Run.{captureVocoder, captureForm, captureKind, andThen, offeredTo, lostIn, takenOf, offering, pouredOf, pouring, isTwelve, readied, stepOf, runOf}
 use Rattle.capture.specs.Run.{Step, firstSession, wholeRun, entriesRecorded, captureRecording, largest}
@@ -54,7 +56,6 @@ use Rattle.capture.proofs.CaptureLaws.{good-is}
 use Rattle.capture.proofs.Answering.{twelve-held, pouring-ends}
 use Rattle.capture.proofs.Staying.{Stays, offer-stays}
 use Rattle.capture.proofs.InPlace.{decided-is, later-is, stays-of, first-whole, first-stands}
-use Rattle.capture.proofs.Anew.{New, is-new, not-refused}
 
 abbrev voice : Voice
 voice = voiceWith (captureKind .table)
@@ -99,6 +100,11 @@ put-first : (source : ℕ) (k : GroupNumbers) → Keeps voice (begun holdingShap
 unfolding begun
 put-first source k keeps n le fs many a u = put-pours voice table-fits table-erases (begun holdingShape source k) keeps n le fs many a u
 
+-- an accepted offer is not refused
+not-refused : {A : Type 0} (s t : Session) (lost : ℕ) (r : Refusal) → accept t lost ≡ refuse s r → A
+unfolding accept refuse
+not-refused s t lost r e = let z = ap (λ (o : Offered). o .answer) e in apart (cc)
+
 -- ---- a packet, as it was decided
 module _ (g : Going) (ms rs : List ℕ) (st : Stands (g .standing) ms rs) (f : g .standing .form ≡ captureForm) (h : Heard) (d : Decision) (x : DecidesOf (g .standing) h d) where
   abbrev s : Session
@@ -106,6 +112,9 @@ module _ (g : Going) (ms rs : List ℕ) (st : Stands (g .standing) ms rs) (f : g
 
   abbrev fs : List Frame
   fs = framesOf (g .standing .form) (h .payload)
+
+  worth : Decides (g .standing) (h .source) (h .sequence) (h .timestamp) (h .payload) d
+  worth = decides-as (g .standing) (h .source) (h .sequence) (h .timestamp) (h .payload) d x
 
   offer-is : decidedAs s fs d ≡ offeredTo (captureKind .table) s h
   offer-is = decided-is (g .standing) ms rs st h d x
@@ -149,33 +158,37 @@ module _ (g : Going) (ms rs : List ℕ) (st : Stands (g .standing) ms rs) (f : g
     unfolding decidedAs
     put-is = rw e
 
-    anew : New (g .standing .form) (h .payload) (s .group) (withPacket holdingShape (s .group) n (laid holdingShape fs))
-    anew = is-new (g .standing) (h .source) (h .sequence) (h .timestamp) (h .payload) n (rw e at x) ms rs st
+    anew : PutsIn (g .standing) (h .payload) n
+    anew = puts-in (g .standing) ms rs st (h .source) (h .sequence) (h .timestamp) (h .payload) n (sym e ∙ x)
 
-    put-packet : IsPacket (captureKind .table) (anew .l) (anew .m) (anew .fs)
-    put-packet = read-is (captureKind .table) (rows-single captureVocoder) (g .standing .form) (h .payload) (anew .l) (anew .m) (anew .d) (anew .fs) (anew .read)
+    put-fs : fs ≡ anew .fs
+    unfolding framesRead
+    put-fs = ap framesRead (anew .read)
+
+    put-packet : IsPacket (captureKind .table) (anew .l) n (anew .fs)
+    put-packet = read-is (captureKind .table) (rows-single captureVocoder) (g .standing .form) (h .payload) (anew .l) n (anew .d) (anew .fs) (anew .read)
 
     put-full : 1 + length (anew .fs) + taken 0 (anew .fs) ≡ length (h .payload)
-    put-full = filled-by (anew .l) (anew .m) (anew .d) (anew .fs) (anew .read)
+    put-full = filled-by (anew .l) n (anew .d) (anew .fs) (anew .read)
 
     put-some : s .group .b ≡ 0 → ⊥
     put-some z = absurd (omega (arith, put-packet .some, anew .many))
 
     -- octet 0 and the entries are there, and packet n is one of eight
     pub put-fits : (n < 8) × (1 + g .standing .numbers .b ≤ length (h .payload))
-    put-fits = let y = rw e at (x .fits ms rs st) in (y .0, omega (arith, put-full, anew .many))
+    put-fits = let y = rw e at (worth .fits ms rs st) in (y .0, omega (arith, put-full, anew .many))
 
     put-stays : Stays (captureKind .table) put-session
     unfolding accept
     put-stays = subst (λ (o : Offered). Stays (captureKind .table) (o .session)) put-is after-stays
 
     put-held : heldOctets put-session ≡ heldOctets s + taken 0 (anew .fs)
-    unfolding withGroup withPacket
+    unfolding withGroup withPacket heldAt
     put-held =
         let after = withPacket holdingShape (s .group) n (laid holdingShape fs) in
         held-some put-session (put-stays .opened) put-some
-        ∙ ap (λ (y : Holding). length (entriesOf (inTime voice y))) (anew .is)
-        ∙ put-pours voice table-fits table-erases (s .group) (held-keeps s (st .opened) stays put-some) (anew .m)
+        ∙ ap (λ (y : Holding). length (entriesOf (inTime voice y))) (ap (λ (y : List Frame). withPacket holdingShape (s .group) n (laid holdingShape y)) put-fs)
+        ∙ put-pours voice table-fits table-erases (s .group) (held-keeps s (st .opened) stays put-some) n
         (omega (arith, put-packet .index-in, anew .length-is)) (anew .fs) (anew .many) (put-packet .listed) (anew .unheld)
         ∙ ap (λ (i : ℕ). i + taken 0 (anew .fs)) (sym (held-some s (st .opened) put-some))
 
@@ -203,7 +216,7 @@ module _ (g : Going) (ms rs : List ℕ) (st : Stands (g .standing) ms rs) (f : g
     begin-is = rw e
 
     none-held : s .group .b ≡ 0
-    none-held = let y = rw e at (x .fits ms rs st) in y .2
+    none-held = let y = rw e at (worth .fits ms rs st) in y .2
 
     begun-so : Begun (g .standing .form) (h .payload) (s .source) group
     unfolding begins arrival offeredTo withGroup
@@ -250,7 +263,7 @@ module _ (g : Going) (ms rs : List ℕ) (st : Stands (g .standing) ms rs) (f : g
     pub begin-fits : (n < 8) × (1 + k .b ≤ length (h .payload)) × (lost ≤ minute) × ((k .l + 1) * k .b ≤ 80)
     unfolding lostIn accept
     begin-fits =
-        let y = rw e at (x .fits ms rs st) in
+        let y = rw e at (worth .fits ms rs st) in
         let c : lostIn (offeredTo (captureKind .table) s h .answer) ≡ lost = ap (λ (o : Offered). lostIn (o .answer)) (sym offer-is ∙ begin-is) in
         let low : k .l + 1 ≤ 8 = omega (arith, begin-packet .length-small, same-length) in
         let few : k .b ≤ 10 = omega (arith, begin-packet .few, same-many, begun-so .many) in

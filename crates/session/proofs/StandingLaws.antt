@@ -36,7 +36,7 @@ use Rattle.bundle.specs.declared.Bundle.{Bundle}
 use Rattle.bundle.specs.Bundles.{sameBundles}
 use Rattle.bundle.specs.LaidOut.{laid}
 use Rattle.session.specs.Session.{isOpen, refuse, accept, withGroup, lastNumbers, groupBefore, begins, belongs, placed, received, offered}
-use Rattle.session.specs.Standing.{whole, Stands, Fits, framesOf, offeredIn, decidedAs, beforeOf, placedAs, groupNumbers, readDecision, decisionOf, Decides, begunWith, holdingAlso}
+use Rattle.session.specs.Standing.{whole, Stands, Fits, framesOf, offeredIn, decidedAs, beforeOf, placedAs, groupNumbers, readDecision, decisionOf, begunWith, holdingAlso}
 use Rattle.session.specs.declared.Standing.{Standing}
 use Rattle.session.specs.declared.Session.{Session}
 use Rattle.session.specs.declared.Arrival.{Arrival}
@@ -93,19 +93,19 @@ module _ (t : Standing) (ms rs : List ℕ) (h : Stands t ms rs) where
         go false q =
             never (withHeld (t .numbers) g) (held-ends (t .numbers) g) (by-numbers (verdict.Begins lost) e (before.Held (t .numbers)) (stands-held (eqb-false _ _ q)))
 
-    pub belongs-bundle : decided (groupBefore holdingShape (whole t ms rs)) g ≡ verdict.Belongs → g .b ≡ t .numbers .b
+    pub belongs-as : decided (groupBefore holdingShape (whole t ms rs)) g ≡ verdict.Belongs → (g .l ≡ t .numbers .l) × (g .b ≡ t .numbers .b)
     unfolding decided
-    belongs-bundle e = go (eqb (t .numbers .b) 0) refl (t .poured) refl
+    belongs-as e = go (eqb (t .numbers .b) 0) refl (t .poured) refl
       where
-        after : (w : Verdict) → PouredEnds (t .last) g w → w ≡ verdict.Belongs → g .b ≡ t .numbers .b
+        after : (w : Verdict) → PouredEnds (t .last) g w → w ≡ verdict.Belongs → (g .l ≡ t .numbers .l) × (g .b ≡ t .numbers .b)
         after w (numbers.refused r n q) f = apart (cc)
         after w (numbers.follows lost q m k) f = apart (cc)
 
-        among : (w : Verdict) → HeldEnds (t .numbers) g w → w ≡ verdict.Belongs → g .b ≡ t .numbers .b
+        among : (w : Verdict) → HeldEnds (t .numbers) g w → w ≡ verdict.Belongs → (g .l ≡ t .numbers .l) × (g .b ≡ t .numbers .b)
         among w (numbers.refused r q) f = apart (cc)
-        among w (numbers.member l b q) f = b
+        among w (numbers.member l b q) f = (l, b)
 
-        go : (x : Bool) → eqb (t .numbers .b) 0 ≡ x → (y : Bool) → t .poured ≡ y → g .b ≡ t .numbers .b
+        go : (x : Bool) → eqb (t .numbers .b) 0 ≡ x → (y : Bool) → t .poured ≡ y → (g .l ≡ t .numbers .l) × (g .b ≡ t .numbers .b)
         go true q true p =
             after (afterPoured (t .last) g) (poured-ends (t .last) g) (by-numbers verdict.Belongs e (before.Poured (t .last)) (stands-poured (eqb-true _ _ q) p))
         go true q false p =
@@ -225,7 +225,7 @@ module _
 
     module _ (q : w ≡ verdict.Belongs) where
       many : (ms rs : List ℕ) → Stands t ms rs → (fs : List Frame) → g .b ≡ length fs → t .numbers .b ≡ length fs
-      many ms rs h fs k = sym (belongs-bundle t ms rs h g (told ms rs h verdict.Belongs q)) ∙ k
+      many ms rs h fs k = sym (belongs-as t ms rs h g (told ms rs h verdict.Belongs q) .1) ∙ k
 
       place-put : heldAt (whole t [] [] .group) n ≡ false → Places t g n (decision.PutIn n)
       unfolding decidedAs heldAt
@@ -260,6 +260,12 @@ places-as t g n k = go (decided (beforeOf t) g) refl
         held false h = place-put t g n (beforeOf t) _ (before-is t) refl k q h
 
 -- ---- what the decision on a packet is worth
+-- what a decision on a packet is worth: whatever is held, it is what an open session makes of it
+pub record Decides (t : Standing) (source sequence timestamp : ℕ) (p : List ℕ) (r : Decision) : Type 0 where
+  pub fits : (ms rs : List ℕ) → Stands t ms rs → Fits t (framesOf (t .form) p) r
+  pub means : (ms rs : List ℕ) → Stands t ms rs
+      → decidedAs (whole t ms rs) (framesOf (t .form) p) r ≡ received (voiceFor (t .form)) (whole t ms rs) source sequence timestamp p
+
 decides-of : (t : Standing) (source sequence timestamp : ℕ) (p : List ℕ) → T (single (tableOf (t .form)) (tableOf (t .form)))
     → Decides t source sequence timestamp p (decisionOf t source sequence timestamp p)
 unfolding decisionOf readDecision decidedAs contentsOf
@@ -300,6 +306,55 @@ pub decides-as : (t : Standing) (source sequence timestamp : ℕ) (p : List ℕ)
     → Decides t source sequence timestamp p r
 decides-as t source sequence timestamp p r e =
     subst (Decides t source sequence timestamp p) (sym e) (decides-of t source sequence timestamp p (rows-single (vocoderOf (t .form))))
+
+-- a packet that is put in: as it was read, not held, and of the held group's L and B
+pub record PutsIn (t : Standing) (p : List ℕ) (n : ℕ) : Type 0 where
+  pub l : ℕ
+  pub d : ℕ
+  pub fs : List Frame
+  pub read : readAs (tableOf (t .form)) (t .form) p ≡ packet l n d fs
+  pub unheld : getD (t .held) n false ≡ false
+  pub length-is : l ≡ t .numbers .l
+  pub many : length fs ≡ t .numbers .b
+
+pub puts-in : (t : Standing) (ms rs : List ℕ) → Stands t ms rs → (source sequence timestamp : ℕ) (p : List ℕ) (n : ℕ)
+    → decision.PutIn n ≡ decisionOf t source sequence timestamp p → PutsIn t p n
+unfolding decisionOf readDecision placedAs
+puts-in t ms rs h source sequence timestamp p n = by-source (eqb source (t .source))
+  where
+    by-held : (l m d : ℕ) (fs : List Frame) → readAs (tableOf (t .form)) (t .form) p ≡ packet l m d fs
+        → decided (beforeOf t) (groupNumbers sequence timestamp m l (length fs)) ≡ verdict.Belongs
+        → (b : Bool) → getD (t .held) m false ≡ b → decision.PutIn n ≡ cond b (decision.Again m) (decision.PutIn m) → PutsIn t p n
+    by-held l m d fs r q true k e = apart (cc)
+    by-held l m d fs r q false k e =
+        let z : m ≡ n = cc in
+        let g = groupNumbers sequence timestamp m l (length fs) in
+        let same = belongs-as t ms rs h g (ap (λ (x : Before). decided x g) (sym (before-is t ms rs h)) ∙ q) in
+        record {
+          l = l;
+          d = d;
+          fs = fs;
+          read = r ∙ ap (λ (i : ℕ). packet l i d fs) z;
+          unheld = ap (λ (i : ℕ). getD (t .held) i false) (sym z) ∙ k;
+          length-is = same .0;
+          many = same .1;
+        }
+
+    by-place : (l m d : ℕ) (fs : List Frame) → readAs (tableOf (t .form)) (t .form) p ≡ packet l m d fs
+        → (w : Verdict) → decided (beforeOf t) (groupNumbers sequence timestamp m l (length fs)) ≡ w
+        → decision.PutIn n ≡ placedAs t (groupNumbers sequence timestamp m l (length fs)) m w → PutsIn t p n
+    by-place l m d fs r (verdict.Begins lost) q e = apart (cc)
+    by-place l m d fs r (verdict.Refused x) q e = apart (cc)
+    by-place l m d fs r verdict.Belongs q e = by-held l m d fs r q (getD (t .held) m false) refl e
+
+    by-packet : (w : Reading) → readAs (tableOf (t .form)) (t .form) p ≡ w → decision.PutIn n ≡ readDecision t sequence timestamp w → PutsIn t p n
+    by-packet (refusedPayload r) q e = apart (cc)
+    by-packet (packet l m d fs) q e = by-place l m d fs q (decided (beforeOf t) (groupNumbers sequence timestamp m l (length fs))) refl e
+
+    by-source : (b : Bool)
+        → decision.PutIn n ≡ cond b (readDecision t sequence timestamp (readAs (tableOf (t .form)) (t .form) p)) (decision.Refused AnotherSource) → PutsIn t p n
+    by-source true e = by-packet (readAs (tableOf (t .form)) (t .form) p) refl e
+    by-source false e = apart (cc)
 
 -- ---- a packet that is held already
 module _ (s : Session) (fs : List Frame) (n : ℕ) (p : Bundle) (e : bundleAt holdingShape (s .group) n ≡ p) where

@@ -23,7 +23,7 @@ use Rattle.numbers.specs.declared.Verdict.the-variants as verdict
 use Rattle.bundle.specs.Bundles.{sameBundles}
 use Rattle.bundle.specs.LaidOut.{laid}
 use Rattle.holding.specs.Group.{Spans, bundleAt, withPacket}
-use Rattle.session.specs.Session.{isOpen, refuse, accept, withGroup, begins, received}
+use Rattle.session.specs.Session.{isOpen, refuse, accept, withGroup, begins}
 use Rattle.session.specs.declared.Session.{Session}
 use Rattle.session.specs.declared.Standing.{Standing}
 use Rattle.session.specs.declared.Decision.{Decision}
@@ -110,12 +110,6 @@ unfoldable pub decisionOf : Standing → ℕ → ℕ → ℕ → List ℕ → De
 decisionOf t source sequence timestamp p =
     cond (eqb source (t .source)) (readDecision t sequence timestamp (readAs (tableOf (t .form)) (t .form) p))
     (decision.Refused AnotherSource)
-
--- what a decision on a packet is worth: whatever is held, it is what an open session makes of it
-pub record Decides (t : Standing) (source sequence timestamp : ℕ) (p : List ℕ) (r : Decision) : Type 0 where
-  pub fits : (ms rs : List ℕ) → Stands t ms rs → Fits t (framesOf (t .form) p) r
-  pub means : (ms rs : List ℕ) → Stands t ms rs
-      → decidedAs (whole t ms rs) (framesOf (t .form) p) r ≡ received (voiceFor (t .form)) (whole t ms rs) source sequence timestamp p
 
 -- all but the types and bodies of a session in which packet n "begins a group"
 unfoldable pub begunWith : Standing → GroupNumbers → ℕ → Standing

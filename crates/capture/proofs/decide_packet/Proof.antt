@@ -1,6 +1,5 @@
 -- `capture::decide_packet` meets its contract.
 use borrow.Author.Needs.{needs}
-use Rattle.session.proofs.StandingLaws.{decides-as}
 use Rattle.capture.proofs.InPlace.{decides-heard}
 use Rattle.capture.proofs.decide_packet.Statement.{statement}
 use Rattle.capture.proofs.decide_packet.Tie as tie
@@ -55,8 +54,7 @@ returns c =
     let at-two = c .before .before .before .before in
     let at-four = at-two .before in
     let start = at-four .before .before in
-    let worth = decides-as _ _ _ _ _ _ (c .decide .ensures) in
-    decides-heard _ _ _ _ _ _ _ _ _ (at-four .four .ensures) (at-two .two .ensures) (c .before .before .before .four2 .ensures) (c .before .before .two2 .ensures) (start .pre .1) worth
+    decides-heard _ _ _ _ _ _ _ _ _ (at-four .four .ensures) (at-two .two .ensures) (c .before .before .before .four2 .ensures) (c .before .before .two2 .ensures) (start .pre .1) (c .decide .ensures)
 
 pub decide-packet-spec : {M : Type 1} → statement M
 decide-packet-spec =

@@ -7,7 +7,7 @@ use native.Mathlib.Nat.{le-refl, add-zero, zero-add, sub-zero, zero-sub, add-sub
 use native.Mathlib.Numerals.{add-one}
 use native.Mathlib.Omega.{arith}
 use lib.ListN.{length-map, take-append-drop, length-take, length-drop, length-append, length-set, length-replicate, getD-replicate, length, take, drop, getD, set, replicate, drop-of-length-le}
-use lib.Seq.{getD-take, getD-drop, take-nil, take-at, drop-at, take-append-le, take-take, drop-append-add, drop-drop, drop-cons, length-take-le, paste, paste-suc, take-all}
+use lib.Seq.{getD-take, getD-drop, take-nil, take-at, drop-at, take-append-le, take-take, drop-append-add, drop-drop, drop-cons, length-take-le, paste, paste-suc, take-add, take-all}
 use lib.Dec.{eqb}
 use borrow.Author.Tests.{eq-eqb, eqb-true}
 use borrow.Rule.Slice.PartMut.{putMid, postOf, post-is}
@@ -53,6 +53,18 @@ module _ (a b : List ℕ) (i : ℕ) (so-far : Bool) (left : sameOctets a b ≡ s
       let q : drop i b ≡ [] = drop-of-length-le b k in
       sym (left ∙ simp (p, q, both-so))
 
+-- two lists behind two of a length are equal if both are, as a test
+pub same-split : (a c b d : List ℕ) → length a ≡ length c → sameOctets (a ++ b) (c ++ d) ≡ sameOctets a c && sameOctets b d
+unfolding sameOctets
+same-split [] [] b d e = refl
+same-split [] (y ∷ c) b d e = absurd (omega arith)
+same-split (x ∷ a) [] b d e = absurd (omega arith)
+same-split (x ∷ a) (y ∷ c) b d e = go (same-split a c b d (omega arith)) (eqb x y)
+  where
+    go : sameOctets (a ++ b) (c ++ d) ≡ sameOctets a c && sameOctets b d → (t : Bool) → t && sameOctets (a ++ b) (c ++ d) ≡ (t && sameOctets a c) && sameOctets b d
+    go q true = q
+    go q false = refl
+
 -- ---- allZero
 
 module _ (s : List ℕ) (i : ℕ) (so-far : Bool) (left : allZero s ≡ so-far && allZero (drop i s)) where
@@ -76,6 +88,20 @@ pub zero-list : (n : ℕ) → allZero (replicate n 0) ≡ true
 unfolding allZero
 zero-list zero = refl
 zero-list (suc n) = zero-list n
+
+-- a list is as many zeros, as a test
+pub same-zeros : (n : ℕ) (xs : List ℕ) → length xs ≡ n → sameOctets (replicate n 0) xs ≡ allZero xs
+same-zeros n xs e = go (sameOctets (replicate n 0) xs) refl (allZero xs) refl
+  where
+    go : (s : Bool) → sameOctets (replicate n 0) xs ≡ s → (t : Bool) → allZero xs ≡ t → s ≡ t
+    go true p true q = refl
+    go false p false q = refl
+    go true p false q =
+        let z : false ≡ true = sym q ∙ ap allZero (sym (same-true _ _ p)) ∙ zero-list n in
+        apart (cc)
+    go false p true q =
+        let z : false ≡ true = sym p ∙ ap (λ (w : List ℕ). sameOctets (replicate n 0) w) (zeros-are xs q ∙ ap (λ (i : ℕ). replicate i 0) e) ∙ same-refl (replicate n 0) in
+        apart (cc)
 
 -- ---- anySet
 
@@ -201,19 +227,21 @@ module _ (xs : List ℕ) (at : ℕ) (p : List ℕ) (fits : at + length p ≤ len
       ∙ rw (append-assoc (take at xs) p (drop (at + length p) xs), take-append-le (j + k) (take at xs) (p ++ drop (at + length p) xs) (omega arith), take-take (j + k) at xs h)
       (sym (window j k xs))
 
-  pub over-after : (j k : ℕ) → at + length p ≤ j → take k (drop j (over xs at p)) ≡ take k (drop j xs)
+  drop-after : (j : ℕ) → at + length p ≤ j → drop j (over xs at p) ≡ drop j xs
   unfolding over
-  over-after j k h =
+  drop-after j h =
       let d : ℕ = j - (at + length p) in
       let t : length (take at xs) ≡ at = length-take-le at xs (omega arith) in
       let l : length (take at xs ++ p) ≡ at + length p = simp length-append (omega arith) in
       let e : j ≡ length (take at xs ++ p) + d = omega arith in
       let f : at + length p + d ≡ j = omega arith in
-      ap (λ (z : List ℕ). take k z)
-      (ap (λ (i : ℕ). drop i (take at xs ++ p ++ drop (at + length p) xs)) e
+      ap (λ (i : ℕ). drop i (take at xs ++ p ++ drop (at + length p) xs)) e
       ∙ drop-append-add (take at xs ++ p) (drop (at + length p) xs) d
       ∙ drop-drop d (at + length p) xs
-      ∙ ap (λ (i : ℕ). drop i xs) f)
+      ∙ ap (λ (i : ℕ). drop i xs) f
+
+  pub over-after : (j k : ℕ) → at + length p ≤ j → take k (drop j (over xs at p)) ≡ take k (drop j xs)
+  over-after j k h = ap (take k) (drop-after j h)
 
 -- k octets from `at` on, lent as a part and given back as s, are written over
 pub put-over : (d s : List ℕ) (at k : ℕ) → length s ≡ k → putMid at (at + k - at) d s ≡ over d at s
@@ -242,6 +270,33 @@ over-whole d w e =
     let k : length d ≤ 0 + length w = omega arith in
     let z : drop (0 + length w) d ≡ [] = drop-of-length-le d k in
     rw z (append-nil w)
+
+-- what lies behind xs may be written over itself
+pub over-kept : (d xs : List ℕ) (n k : ℕ) → length xs ≡ n → n + k ≤ length d → over d 0 xs ≡ over d 0 (xs ++ take k (drop n d))
+unfolding over
+over-kept d xs n k e h =
+    let w = take k (drop n d) in
+    let l : length w ≡ k = simp (length-take, length-drop) (omega arith) in
+    let i : 0 + length xs ≡ n = omega arith in
+    let j : n + k ≡ 0 + length (xs ++ w) = omega (arith, length-append xs w) in
+    ap (λ (m : ℕ). xs ++ drop m d) i
+    ∙ ap (λ (z : List ℕ). xs ++ z) (sym (take-append-drop k (drop n d)) ∙ ap (λ (z : List ℕ). w ++ z) (drop-drop k n d))
+    ∙ sym (append-assoc xs w (drop (n + k) d)) ∙ ap (λ (m : ℕ). xs ++ w ++ drop m d) j
+
+pub over-itself : (d : List ℕ) (at k : ℕ) → at + k ≤ length d → over d at (take k (drop at d)) ≡ d
+unfolding over
+over-itself d at k h =
+    let l : length (take k (drop at d)) ≡ k = simp (length-take, length-drop) (omega arith) in
+    ap (λ (i : ℕ). take at d ++ take k (drop at d) ++ drop (at + i) d) l ∙ ap (λ (w : List ℕ). w ++ drop (at + k) d) (sym (take-add at k d)) ∙ take-append-drop (at + k) d
+
+-- the front written over, by what lies behind it
+over-by : (o x w : List ℕ) → drop (length w) x ≡ drop (length w) o → over x 0 w ≡ over o 0 w
+unfolding over
+over-by o x w q = rw (zero-add, q)
+
+-- what was written where w is written over all of it is gone
+pub over-inside : (o p w : List ℕ) (at : ℕ) → at + length p ≤ length w → length w ≤ length o → over (over o at p) 0 w ≡ over o 0 w
+over-inside o p w at h k = over-by o (over o at p) w (drop-after o at p (omega arith) (length w) h)
 
 -- nothing written over changes nothing
 pub over-nothing : (d : List ℕ) (at : ℕ) → d ≡ over d at []

@@ -14,7 +14,6 @@ use Rattle.frame.specs.Shape.{holdingShape, voiceWith}
 use Rattle.form.specs.Agreed.{voiceFor}
 use Rattle.entries.specs.Kind.{Kind}
 use Rattle.entries.specs.Entries.{entriesOf}
-use Rattle.octets.proofs.Logic.{apart}
 use Rattle.answers.specs.Answers.{numberOf}
 use Rattle.answers.specs.declared.Refusal.{Refusal}
 use Rattle.answers.specs.declared.Refusal.the-variants.{PacketDiffers}
@@ -26,17 +25,16 @@ use Rattle.holding.proofs.GroupLaws.{Sound, sound-has, holds-sound}
 use Rattle.knowledge.proofs.PutLaws.{begun-shaped}
 use Rattle.pouring.specs.Pouring.{rows, rowsSize}
 use Rattle.pouring.proofs.PouringLaws.{length-rows}
-use Rattle.session.specs.Session.{vacant, fresh, formRight, refuse, accept, begins, arrival, offered, ended}
+use Rattle.session.specs.Session.{vacant, fresh, formRight, refuse, accept, begins, ended}
 use Rattle.session.specs.Standing.{whole, Stands, Fits, framesOf, decidedAs, decisionOf}
 use Rattle.session.specs.declared.Session.{Session}
 use Rattle.session.specs.declared.Standing.{Standing}
 use Rattle.session.specs.declared.Decision.{Decision}
 use Rattle.session.specs.declared.Decision.the-variants as decision
-use Rattle.session.specs.declared.Arrival.{Arrival}
 use Rattle.session.specs.declared.Offered.{Offered}
 use Rattle.session.specs.declared.Taken.{Taken}
 use Rattle.session.specs.declared.Taken.the-variants.{Accepted, Refused}
-use Rattle.session.proofs.Ends.{Placed, no, again, put, first, next, Ends, refuses, places, offer-ends, fresh-open}
+use Rattle.session.proofs.Ends.{refused-keeps, fresh-open}
 use Rattle.session.proofs.SessionLaws.{group-holds, pour-vacant, pour-group, offer-open}
 use Rattle.session.proofs.StandingLaws.{Decides, decides-as}
 use Rattle.capture.specs.Capture.{Heard, countOf, startAt, heardAt, lengthAt, packetsIn}
@@ -167,19 +165,8 @@ module _ (t : Standing) (ms rs : List ℕ) (h : Stands t ms rs) (k : Heard) (d :
 
 -- a refused offer leaves the session as it was
 kept : (v : FrameTable) (s : Session) (h : Heard) (r : Refusal) → offeredTo v s h .answer ≡ Refused r → offeredTo v s h .session ≡ s
-unfolding offeredTo refuse accept begins
-kept v s h r = go (offered (voiceWith v) s (h .source) (h .sequence) (h .timestamp) (h .payload)) (offer-ends (voiceWith v) s (h .source) (h .sequence) (h .timestamp) (h .payload))
-  where
-    by-place : (a : Arrival) (o : Offered) → Placed holdingShape s a o → o .answer ≡ Refused r → o .session ≡ s
-    by-place a o (no q m e) f = rw e
-    by-place a o (again q e) f = rw e
-    by-place a o (put q m l b e) f = let z : Accepted 0 ≡ Refused r = sym (ap (λ (x : Offered). x .answer) e) ∙ f in apart (cc)
-    by-place a o (first q p e) f = let z : Accepted 0 ≡ Refused r = sym (ap (λ (x : Offered). x .answer) e) ∙ f in apart (cc)
-    by-place a o (next q p lost g m e) f = let z : Accepted lost ≡ Refused r = sym (ap (λ (x : Offered). x .answer) e) ∙ f in apart (cc)
-
-    go : (o : Offered) → Ends (voiceWith v) s (h .source) (h .sequence) (h .timestamp) (h .payload) o → o .answer ≡ Refused r → o .session ≡ s
-    go o (refuses q m e) f = rw e
-    go o (places i j l n d fs q x) f = by-place (arrival holdingShape (h .sequence) (h .timestamp) l n fs) o x f
+unfolding offeredTo
+kept v s h r = refused-keeps (voiceWith v) s (h .source) (h .sequence) (h .timestamp) (h .payload) r
 
 -- the run after it
 pub took-does : (kind : Kind) (s : Session) (h : Heard) (o : Offered) (lost at : ℕ) (d e : List ℕ) → o ≡ offeredTo (kind .table) s h → lost ≡ lostIn (o .answer)

@@ -18,8 +18,14 @@ use Rattle.bundle.specs.declared.Bundle.{Bundle}
 use Rattle.octets.proofs.Regions.{region-fits, cut-is, cutAt}
 use Rattle.frame.proofs.FrameTableLaws.{cell-small, packets-few}
 use Rattle.frame.specs.declared.Vocoder.{Vocoder}
-use Rattle.holding.specs.Group.{begun, nothing, bare, isNothing, bundleOf, packetRight, rightIn, rightAt, sound, holds}
+use Rattle.numbers.specs.declared.GroupNumbers.{GroupNumbers}
+use Rattle.holding.specs.Group.{holdingOf, numbersOf, begun, nothing, bare, isNothing, bundleOf, packetRight, rightIn, rightAt, sound, holds}
 use Rattle.holding.specs.declared.Holding.{Holding}
+
+-- a holding is that of its parts
+pub of-parts : (h : Holding) (g : GroupNumbers) → g ≡ numbersOf h → holdingOf (h .source) g (h .held) (h .marks) (h .room) ≡ h
+unfolding numbersOf
+of-parts h g e = rw e
 
 -- packet n's cells lie in the room of a vocoder's groups, which is not large
 pub packet-in :

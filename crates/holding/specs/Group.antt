@@ -29,6 +29,20 @@ pub record Spans (shape : Shape) (hs : List Bool) (ms rs : List ℕ) : Type 0 wh
 abbrev pub Shaped : Shape → Holding → Type 0
 Shaped shape h = Spans shape (h .held) (h .marks) (h .room)
 
+-- the holding of these parts
+abbrev pub holdingOf : ℕ → GroupNumbers → List Bool → List ℕ → List ℕ → Holding
+holdingOf source g hs ms rs =
+    record {
+      source = source;
+      sequence = g .sequence;
+      timestamp = g .timestamp;
+      l = g .l;
+      b = g .b;
+      held = hs;
+      marks = ms;
+      room = rs;
+    }
+
 -- a group of which no packet is held yet
 unfoldable pub begun : Shape → ℕ → GroupNumbers → Holding
 begun shape source g =

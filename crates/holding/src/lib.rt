@@ -6,12 +6,13 @@ use frame::Vocoder;
 use numbers::GroupNumbers;
 use numbers::Verdict;
 ghost use mathlib.Core.Path.{_≡_};
-ghost use Prim.Native.Nat.{_<_, _≤_};
+ghost use Prim.Native.Nat.{ℕ, _<_, _≤_};
 ghost use lib.ListN.{length};
 ghost use Rattle.bundle.specs.Bundles.{bundleIn, sameBundles};
-ghost use Rattle.frame.specs.Shape.{holdingShape, packetsOf, roomOf, shapeOf, voiceOf};
+ghost use Rattle.frame.specs.FrameTable.{rowsOf};
+ghost use Rattle.frame.specs.Shape.{holdingShape, packetsOf, roomOf, shapeOf, voiceOf, voiceWith};
 ghost use Rattle.octets.specs.Octets.{allBelow};
-ghost use Rattle.holding.specs.Group.{Spans, voiceIn, nothing, begun, numbersOf, bare, isNothing, heldAt, bundleAt, withPacket};
+ghost use Rattle.holding.specs.Group.{Spans, voiceIn, holdingOf, nothing, begun, numbersOf, bare, isNothing, heldAt, bundleAt, withPacket};
 ghost use Rattle.holding.specs.Group.{packetRight, rightIn, sound, holds};
 ghost use Rattle.holding.specs.Asked.{withBit, bitsOf, described, lostBy, lostBetween};
 
@@ -101,46 +102,58 @@ pub fn nothing() -> Holding
     begin(0, none)
 }
 
-// Whether the flags, marks and room of h are those of a holding of nothing.
-fn is_bare(h: Holding) -> bool
-    ensures { λ r. ⌜ r ≡ bare holdingShape h ⌝ }
+// Whether no packet is held, every place reads as an erasure, and all room is zero.
+fn is_bare(held: &[bool], marks: &[u8], room: &[u8]) -> bool
+    ensures { λ r. ⌜ ((source : ℕ) (g : GroupNumbers) → r
+        ≡ bare holdingShape (holdingOf source g (now (held .entry)) (now (marks .entry)) (now (room .entry)))) ⌝ }
 {
-    let flags = h.held;
-    let some = octets::any(&flags);
+    let some = octets::any(held);
     if some {
         return false;
     }
-    let marks = h.marks;
     let none = no_marks();
-    let erased = octets::same(&marks, &none);
-    if erased {
-        let room = h.room;
-        octets::zeros(&room)
-    } else {
-        false
+    let erased = octets::same(marks, &none);
+    if erased { octets::zeros(room) } else { false }
+}
+
+// internal: for a holding whose parts lie apart.
+// Whether it is a holding of nothing.
+pub fn is_nothing_in(
+    source: u32,
+    numbers: GroupNumbers,
+    held: &[bool],
+    marks: &[u8],
+    room: &[u8],
+) -> bool
+    ensures { λ r. ⌜ r ≡ isNothing holdingShape (holdingOf source numbers (now (held .entry)) (now (marks .entry)) (now (room .entry))) ⌝ }
+{
+    if source != 0 {
+        return false;
     }
+    if numbers.sequence != 0 {
+        return false;
+    }
+    if numbers.timestamp != 0 {
+        return false;
+    }
+    if numbers.l != 0 {
+        return false;
+    }
+    if numbers.b != 0 {
+        return false;
+    }
+    is_bare(held, marks, room)
 }
 
 // Whether h is a holding of nothing.
 pub fn is_nothing(h: Holding) -> bool
     ensures { λ r. ⌜ r ≡ isNothing holdingShape h ⌝ }
 {
-    if h.source != 0 {
-        return false;
-    }
-    if h.sequence != 0 {
-        return false;
-    }
-    if h.timestamp != 0 {
-        return false;
-    }
-    if h.l != 0 {
-        return false;
-    }
-    if h.b != 0 {
-        return false;
-    }
-    is_bare(h)
+    let numbers = numbers_of(h);
+    let held = h.held;
+    let marks = h.marks;
+    let room = h.room;
+    is_nothing_in(h.source, numbers, &held, &marks, &room)
 }
 
 // internal: n comes from a payload that was read, so it is at most 7.
@@ -266,36 +279,55 @@ fn packets_right(vocoder: Vocoder, l: u8, b: u8, held: &[bool], marks: &[u8], ro
     true
 }
 
-// Whether h keeps the rule of a holding. Its frames are EVRC, as yet of each.
+// Whether a group of these numbers, flags, types and cells keeps the rule of a holding. Its frames are EVRC, as yet of each.
+fn is_sound_in(numbers: GroupNumbers, held: &[bool], marks: &[u8], room: &[u8]) -> bool
+    requires { ⌜ Spans holdingShape (now held) (now marks) (now room) ⌝ }
+    ensures { λ r. ⌜ ((source : ℕ) → r
+        ≡ sound (voiceWith (rowsOf Vocoder.Evrc)) (holdingOf source numbers (now (held .entry)) (now (marks .entry)) (now (room .entry)))) ⌝ }
+{
+    if 7 < numbers.l {
+        return false;
+    }
+    if numbers.b < 1 {
+        return false;
+    }
+    if 10 < numbers.b {
+        return false;
+    }
+    packets_right(Vocoder::Evrc, numbers.l, numbers.b, held, marks, room)
+}
+
+// internal: for a holding whose parts lie apart.
+// Whether it holds a packet. One that breaks the rule counts as holding none.
+pub fn holds_packet_in(numbers: GroupNumbers, held: &[bool], marks: &[u8], room: &[u8]) -> bool
+    requires { ⌜ Spans holdingShape (now held) (now marks) (now room) ⌝ }
+    ensures { λ r. ⌜ ((source : ℕ) → r
+        ≡ holds (voiceWith (rowsOf Vocoder.Evrc)) (holdingOf source numbers (now (held .entry)) (now (marks .entry)) (now (room .entry)))) ⌝ }
+{
+    let keeps = is_sound_in(numbers, held, marks, room);
+    if keeps { octets::any(held) } else { false }
+}
+
+// Whether h keeps the rule of a holding.
 pub fn is_sound(h: Holding) -> bool
     ensures { λ r. ⌜ r ≡ sound (voiceIn h) h ⌝ }
 {
-    if 7 < h.l {
-        return false;
-    }
-    if h.b < 1 {
-        return false;
-    }
-    if 10 < h.b {
-        return false;
-    }
+    let numbers = numbers_of(h);
     let held = h.held;
     let marks = h.marks;
     let room = h.room;
-    packets_right(Vocoder::Evrc, h.l, h.b, &held, &marks, &room)
+    is_sound_in(numbers, &held, &marks, &room)
 }
 
 // Whether h holds a packet. One that breaks the rule counts as holding none.
 pub fn holds_packet(h: Holding) -> bool
     ensures { λ r. ⌜ r ≡ holds (voiceIn h) h ⌝ }
 {
-    let keeps = is_sound(h);
-    if keeps {
-        let held = h.held;
-        octets::any(&held)
-    } else {
-        false
-    }
+    let numbers = numbers_of(h);
+    let held = h.held;
+    let marks = h.marks;
+    let room = h.room;
+    holds_packet_in(numbers, &held, &marks, &room)
 }
 
 // ---- what a host of two boxes asks

@@ -3,13 +3,14 @@ use answers::Refusal;
 use answers::Written;
 use frame::Vocoder;
 use holding::Holding;
+use numbers::GroupNumbers;
 ghost use mathlib.Core.Path.{_≡_};
 ghost use Prim.Native.Nat.{_+_, _*_, _<_, _≤_};
 ghost use lib.ListN.{length};
 ghost use Rattle.answers.specs.Outputs.{Writes};
 ghost use Rattle.entries.specs.Entries.{entriesOf};
 ghost use Rattle.frame.specs.FrameTable.{rowsOf};
-ghost use Rattle.frame.specs.Shape.{packetsOf, roomOf, shapeOf, voiceOf};
+ghost use Rattle.frame.specs.Shape.{packetsOf, roomOf, shapeOf, voiceOf, voiceWith};
 ghost use Rattle.octets.specs.Octets.{over};
 ghost use Rattle.holding.specs.Group.{voiceIn, holds};
 ghost use Rattle.answers.specs.Outputs.{octets};
@@ -100,22 +101,33 @@ pub fn pour_rows(vocoder: Vocoder, marks: &[u8], room: &[u8], m: usize, b: usize
     }
 }
 
+// internal: a caller has judged the group.
+// Pours a group of these numbers, types and cells. Its frames are EVRC, as yet of each.
+pub fn pour_held_in(numbers: GroupNumbers, marks: &[u8], room: &[u8], out: &mut [u8]) -> Written
+    requires { ⌜ (length (now marks) ≡ 80) × (length (now room) ≡ 1760) × (numbers .l ≤ 7) × (numbers .b ≤ 10) ⌝ }
+    ensures { λ r. ⌜ Writes (octets (entriesOf (rows (voiceWith (rowsOf Vocoder.Evrc)) (now (marks .entry)) (now (room .entry)) (numbers .l + 1) (numbers .b))))
+        (now (out .entry)) r (now (out .exit)) ⌝ }
+{
+    let m = numbers.l as usize + 1;
+    let b = numbers.b as usize;
+    let size = pour_size(Vocoder::Evrc, marks, m, b);
+    if out.len() < size {
+        return Written::Refused(Refusal::NoRoom);
+    }
+    pour_rows(Vocoder::Evrc, marks, room, m, b, out);
+    Written::Octets(size)
+}
+
 // internal: a caller has judged the holding.
-// Pours a holding that holds a packet. Its frames are EVRC, as yet of each holding.
+// Pours a holding that holds a packet.
 pub fn pour_held(h: Holding, out: &mut [u8]) -> Written
     requires { ⌜ holds (voiceIn h) h ≡ true ⌝ }
     ensures { λ r. ⌜ Writes (octets (entriesOf (inTime (voiceIn h) h))) (now (out .entry)) r (now (out .exit)) ⌝ }
 {
+    let numbers = holding::numbers_of(h);
     let marks = h.marks;
-    let m = h.l as usize + 1;
-    let b = h.b as usize;
-    let size = pour_size(Vocoder::Evrc, &marks, m, b);
-    if out.len() < size {
-        return Written::Refused(Refusal::NoRoom);
-    }
     let room = h.room;
-    pour_rows(Vocoder::Evrc, &marks, &room, m, b, out);
-    Written::Octets(size)
+    pour_held_in(numbers, &marks, &room, out)
 }
 
 // Pours h into out: all its places in time order as recording entries.

@@ -1,8 +1,9 @@
 -- How an offer ends: the one walk over its checks, from which all that holds of every offer is read off. Assumes nothing.
 use Prim.Native.Nat.{ℕ, _/_, _≤_}
 use mathlib.Core.Bool.{Bool, true, false, cond, _&&_}
-use mathlib.Core.Path.{_≡_, refl, sym, subst, _∙_}
+use mathlib.Core.Path.{_≡_, refl, sym, ap, subst, _∙_}
 use mathlib.Core.List.{List}
+use native.Mathlib.Omega.{arith}
 use lib.Dec.{eqb}
 use borrow.Author.Tests.{eqb-true, le-leb}
 use Rattle.octets.proofs.Logic.{apart, both-true}
@@ -27,6 +28,7 @@ use Rattle.session.specs.Session.{belongs, placedBy, placed, arrival, ju
 use Rattle.session.specs.declared.Session.{Session}
 use Rattle.session.specs.declared.Arrival.{Arrival}
 use Rattle.session.specs.declared.Offered.{Offered}
+use Rattle.session.specs.declared.Taken.the-variants.{Accepted, Refused}
 
 -- ---- a session that is open
 pub record Open (v : Voice) (s : Session) : Type 0 where
@@ -48,6 +50,16 @@ pub group-has : (v : Voice) (s : Session) → groupRight v s ≡ true → isNoth
     → (holds v (s .group) ≡ true) × (s .group .source ≡ s .source)
 unfolding groupRight
 group-has v s e f = let p = both-true (holds v (s .group)) (eqb (s .group .source) (s .source)) (rw f at e) in (p .0, eqb-true _ _ (p .1))
+
+-- and it holds none if its group has no frame to a packet
+pub open-vacant : (v : Voice) (s : Session) → isOpen v s ≡ true → s .group .b ≡ 0 → isNothing (v .shape) (s .group) ≡ true
+open-vacant v s e z = go (isNothing (v .shape) (s .group)) refl
+  where
+    go : (x : Bool) → isNothing (v .shape) (s .group) ≡ x → x ≡ true
+    go true q = refl
+    go false q =
+        let g = group-has v s (open-has v s e .group) q in
+        absurd (omega (arith, sound-has v (s .group) (holds-sound v (s .group) (g .0) .0) .some))
 
 -- one that was just opened is
 pub fresh-open : (v : Voice) (source : ℕ) (form : Form) → formRight form ≡ true → isOpen v (fresh (v .shape) source form) ≡ true
@@ -143,6 +155,23 @@ offer-ends v s source sequence timestamp p = by-open (isOpen v s) refl (eqb sour
     by-open true x true y (refusedPayload r) z = refuses r (never-later (v .table) (s .form) p r z) refl
     by-open true x true y (packet l n d fs) z =
         places x (eqb-true source (s .source) y) l n d fs z (placed-ends (v .shape) s (arrival (v .shape) sequence timestamp l n fs))
+
+-- ---- a refused offer leaves the session as it was
+pub refused-keeps : (v : Voice) (s : Session) (source sequence timestamp : ℕ) (p : List ℕ) (r : Refusal)
+    → offered v s source sequence timestamp p .answer ≡ Refused r → offered v s source sequence timestamp p .session ≡ s
+unfolding refuse accept begins
+refused-keeps v s source sequence timestamp p r = go (offered v s source sequence timestamp p) (offer-ends v s source sequence timestamp p)
+  where
+    by-place : (a : Arrival) (o : Offered) → Placed (v .shape) s a o → o .answer ≡ Refused r → o .session ≡ s
+    by-place a o (no q m e) f = rw e
+    by-place a o (again q e) f = rw e
+    by-place a o (put q m l b e) f = let z : Accepted 0 ≡ Refused r = sym (ap (λ (x : Offered). x .answer) e) ∙ f in apart (cc)
+    by-place a o (first q p e) f = let z : Accepted 0 ≡ Refused r = sym (ap (λ (x : Offered). x .answer) e) ∙ f in apart (cc)
+    by-place a o (next q p lost g m e) f = let z : Accepted lost ≡ Refused r = sym (ap (λ (x : Offered). x .answer) e) ∙ f in apart (cc)
+
+    go : (o : Offered) → Ends v s source sequence timestamp p o → o .answer ≡ Refused r → o .session ≡ s
+    go o (refuses q m e) f = rw e
+    go o (places i j l n d fs q x) f = by-place (arrival (v .shape) sequence timestamp l n fs) o x f
 
 -- ---- an offer changes the held group alone
 placed-group : (u : Shape) (s : Session) (a : Arrival) (o : Offered) → Placed u s a o → o .session ≡ withGroup s (o .session .group)

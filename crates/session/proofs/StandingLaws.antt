@@ -31,7 +31,7 @@ use Rattle.numbers.specs.declared.Verdict.the-variants as verdict
 use Rattle.numbers.proofs.PlaceLaws.{HeldEnds, held-ends, PouredEnds, poured-ends, same-numbers}
 use Rattle.numbers.proofs.PlaceLaws as numbers
 use Rattle.holding.specs.Group.{Spans, numbersOf, nothing, begun, isNothing, heldAt, bundleAt, withPacket}
-use Rattle.holding.proofs.GroupLaws.{sound-has, holds-sound, some-frames, nothing-has}
+use Rattle.holding.proofs.GroupLaws.{some-frames, nothing-has}
 use Rattle.bundle.specs.declared.Bundle.{Bundle}
 use Rattle.bundle.specs.Bundles.{sameBundles}
 use Rattle.bundle.specs.LaidOut.{laid}
@@ -45,7 +45,7 @@ use Rattle.session.specs.declared.Offered.{Offered}
 use Rattle.session.specs.declared.Taken.the-variants.{Accepted, Refused}
 use Rattle.session.specs.declared.Decision.{Decision}
 use Rattle.session.specs.declared.Decision.the-variants as decision
-use Rattle.session.proofs.Ends.{open-has, group-has}
+use Rattle.session.proofs.Ends.{open-vacant}
 use Rattle.session.proofs.SessionLaws.{one-held, one-poured, none-before, it-begins, it-belongs, is-refused, put-in, other-source, not-read, was-read, offer-open}
 
 -- ---- whether a group is held: B tells
@@ -54,15 +54,7 @@ module _ (t : Standing) (ms rs : List ℕ) (h : Stands t ms rs) where
   is-held n = some-frames holdingShape (whole t ms rs .group) n
 
   pub is-vacant : t .numbers .b ≡ 0 → isNothing holdingShape (whole t ms rs .group) ≡ true
-  is-vacant z = go (isNothing holdingShape (whole t ms rs .group)) refl
-    where
-      go : (x : Bool) → isNothing holdingShape (whole t ms rs .group) ≡ x → x ≡ true
-      go true e = refl
-      go false e =
-          let v = voiceFor (t .form) in
-          let s = whole t ms rs in
-          let g = group-has v s (open-has v s (h .opened) .group) e in
-          absurd (omega (arith, sound-has v (s .group) (holds-sound v (s .group) (g .0) .0) .some))
+  is-vacant z = open-vacant (voiceFor (t .form)) (whole t ms rs) (h .opened) z
 
   pub stands-held : (t .numbers .b ≡ 0 → ⊥) → before.Held (t .numbers) ≡ groupBefore holdingShape (whole t ms rs)
   unfolding numbersOf

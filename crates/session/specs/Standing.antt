@@ -22,7 +22,7 @@ use Rattle.numbers.specs.declared.Verdict.{Verdict}
 use Rattle.numbers.specs.declared.Verdict.the-variants as verdict
 use Rattle.bundle.specs.Bundles.{sameBundles}
 use Rattle.bundle.specs.LaidOut.{laid}
-use Rattle.holding.specs.Group.{Spans, bundleAt, withPacket}
+use Rattle.holding.specs.Group.{Spans, holdingOf, bundleAt, withPacket}
 use Rattle.session.specs.Session.{isOpen, refuse, accept, withGroup, begins}
 use Rattle.session.specs.declared.Session.{Session}
 use Rattle.session.specs.declared.Standing.{Standing}
@@ -38,17 +38,7 @@ whole t ms rs =
       «open» = t .«open»;
       source = t .source;
       form = t .form;
-      group =
-          record {
-            source = t .«group_source»;
-            sequence = t .numbers .sequence;
-            timestamp = t .numbers .timestamp;
-            l = t .numbers .l;
-            b = t .numbers .b;
-            held = t .held;
-            marks = ms;
-            room = rs;
-          };
+      group = holdingOf (t .«group_source») (t .numbers) (t .held) ms rs;
       poured = t .poured;
       «last_sequence» = t .last .sequence;
       «last_timestamp» = t .last .timestamp;

@@ -185,55 +185,6 @@ pub fn open_agreed(session: Session, source: u32) -> Started
     open(session, source, Form::Interleaved(Limits::agreed()))
 }
 
-// Whether L and B of the last poured group are in range, if there is one.
-fn is_last_right(session: Session) -> bool
-    ensures { λ r. ⌜ r ≡ lastRight holdingShape session ⌝ }
-{
-    if session.poured {
-        if 7 < session.last_l {
-            return false;
-        }
-        if session.last_b < 1 {
-            return false;
-        }
-        return session.last_b <= 10;
-    }
-    true
-}
-
-// Whether the held group keeps the rule of a holding, holds a packet and names the session's source, if there is one.
-fn is_group_right(session: Session) -> bool
-    ensures { λ r. ⌜ r ≡ groupRight (voiceFor (session .form)) session ⌝ }
-{
-    let group = session.group;
-    let vacant = holding::is_nothing(group);
-    if vacant {
-        return true;
-    }
-    let some = holding::holds_packet(group);
-    if some {
-        return group.source == session.source;
-    }
-    false
-}
-
-// Whether a session counts as open.
-pub fn is_open(session: Session) -> bool
-    ensures { λ r. ⌜ r ≡ isOpen (voiceFor (session .form)) session ⌝ }
-{
-    if session.open {
-        let form = session.form;
-        let right = is_form_right(form);
-        if right {
-            let last = is_last_right(session);
-            if last {
-                return is_group_right(session);
-            }
-        }
-    }
-    false
-}
-
 // A refused offer: the session is as it was.
 fn refused(session: Session, reason: Refusal) -> Offered
     ensures { λ r. ⌜ r ≡ refuse session reason ⌝ }
@@ -244,7 +195,7 @@ fn refused(session: Session, reason: Refusal) -> Offered
     }
 }
 
-// ---- an open session in parts: its types and bodies are changed in place
+// ---- a session in parts: its types and bodies are changed in place
 
 // All of a session but the types and the bodies of its group.
 fn standing_of(session: Session) -> Standing
@@ -301,6 +252,71 @@ fn put_together(standing: Standing, marks: [u8; 80], room: [u8; 1760]) -> Sessio
         last_l: last.l,
         last_b: last.b,
     }
+}
+
+// Whether L and B of the last poured group are in range, if there is one.
+fn is_last_right(standing: Standing) -> bool
+    ensures { λ r. ⌜ ((ms rs : List ℕ) → r ≡ lastRight holdingShape (whole standing ms rs)) ⌝ }
+{
+    if standing.poured {
+        let last = standing.last;
+        if 7 < last.l {
+            return false;
+        }
+        if last.b < 1 {
+            return false;
+        }
+        return last.b <= 10;
+    }
+    true
+}
+
+// Whether the held group keeps the rule of a holding, holds a packet and names the session's source, if there is one.
+fn is_group_right(standing: Standing, marks: &[u8], room: &[u8]) -> bool
+    requires { ⌜ Spans holdingShape (standing .held) (now marks) (now room) ⌝ }
+    ensures { λ r. ⌜ r ≡ groupRight (voiceFor (standing .form)) (whole standing (now (marks .entry)) (now (room .entry))) ⌝ }
+{
+    let numbers = standing.numbers;
+    let held = standing.held;
+    let vacant = holding::is_nothing_in(standing.group_source, numbers, &held, marks, room);
+    if vacant {
+        return true;
+    }
+    let some = holding::holds_packet_in(numbers, &held, marks, room);
+    if some {
+        return standing.group_source == standing.source;
+    }
+    false
+}
+
+// internal: for a session whose types and bodies lie apart.
+// Whether it counts as open.
+pub fn is_open_in(standing: Standing, marks: &[u8], room: &[u8]) -> bool
+    requires { ⌜ Spans holdingShape (standing .held) (now marks) (now room) ⌝ }
+    ensures { λ r. ⌜ r ≡ isOpen (voiceFor (standing .form)) (whole standing (now (marks .entry)) (now (room .entry))) ⌝ }
+{
+    if standing.open {
+        let form = standing.form;
+        let right = is_form_right(form);
+        if right {
+            let last = is_last_right(standing);
+            if last {
+                return is_group_right(standing, marks, room);
+            }
+        }
+    }
+    false
+}
+
+// Whether a session counts as open.
+pub fn is_open(session: Session) -> bool
+    ensures { λ r. ⌜ r ≡ isOpen (voiceFor (session .form)) session ⌝ }
+{
+    let standing = standing_of(session);
+    let group = session.group;
+    let marks = group.marks;
+    let room = group.room;
+    is_open_in(standing, &marks, &room)
 }
 
 // The group that a packet comes after: the one that is held, the last one poured, or none. A held group has a frame to a packet.

@@ -1,46 +1,41 @@
 -- `session::is_open` meets its contract.
-use mathlib.Core.Path.{sym, _∙_}
+use mathlib.Core.Path.{sym, ap, _∙_}
 use borrow.Author.Needs.{needs}
-use Rattle.session.proofs.SessionLaws.{not-open, form-wrong, last-wrong, by-group}
+use Rattle.form.specs.Agreed.{voiceFor}
+use Rattle.session.specs.Session.{isOpen}
+use Rattle.session.specs.declared.Session.{Session}
 use Rattle.session.proofs.is_open.Statement.{statement}
 use Rattle.session.proofs.is_open.Tie as tie
 
-is-form-right-requires : tie.Need-is-form-right-requires
-is-form-right-requires c κs = search needs
+standing-of-requires : tie.Need-standing-of-requires
+standing-of-requires c κs = search needs
 
-is-last-right-requires : tie.Need-is-last-right-requires
-is-last-right-requires c κs = search needs
+slice-aggregate-is-open-in : tie.Need-slice-aggregate-is-open-in
+slice-aggregate-is-open-in c =
+    let at-standing-of = c .before .before .before .before in
+    sym (at-standing-of .standing-of .ensures .1 .long-marks)
 
-is-group-right-requires : tie.Need-is-group-right-requires
-is-group-right-requires c κs = search needs
+slice-aggregate-is-open-in-2 : tie.Need-slice-aggregate-is-open-in-2
+slice-aggregate-is-open-in-2 c =
+    let at-standing-of = c .before .before .before .before .before in
+    sym (at-standing-of .standing-of .ensures .1 .long-room)
+
+is-open-in-requires : tie.Need-is-open-in-requires
+is-open-in-requires c κs =
+    let at-standing-of = c .before .before .before .before .before in
+    at-standing-of .standing-of .ensures .1
 
 returns : tie.Need-returns
 returns c =
-    let then = c .before .before .before in
-    let form = sym (then .before .is-form-right .ensures) ∙ then .if2 .taken in
-    let last = sym (c .before .before .is-last-right .ensures) ∙ c .before .if3 .taken in
-    c .is-group-right .ensures ∙ by-group _ _ (then .before .before .if1 .taken) form last
-
-returns-2 : tie.Need-returns-2
-returns-2 c =
-    let then = c .before .before in
-    let form = sym (then .before .is-form-right .ensures) ∙ then .if2 .taken in
-    last-wrong _ _ (then .before .before .if1 .taken) form (sym (c .before .is-last-right .ensures) ∙ c .if3 .left)
-
-returns-3 : tie.Need-returns-3
-returns-3 c = form-wrong _ _ (c .before .before .if1 .taken) (sym (c .before .is-form-right .ensures) ∙ c .if2 .left)
-
-returns-4 : tie.Need-returns-4
-returns-4 c = not-open _ _ (c .if1 .left)
+    let at-standing-of = c .before .before .before .before .before .before in
+    c .is-open-in .ensures ∙ ap (λ (s : Session). isOpen (voiceFor (s .form)) s) (at-standing-of .standing-of .ensures .0)
 
 pub is-open-spec : {M : Type 1} → statement M
 is-open-spec =
     tie.close
     (tie.spec
-    is-form-right-requires
-    is-last-right-requires
-    is-group-right-requires
-    returns
-    returns-2
-    returns-3
-    returns-4)
+    standing-of-requires
+    slice-aggregate-is-open-in
+    slice-aggregate-is-open-in-2
+    is-open-in-requires
+    returns)

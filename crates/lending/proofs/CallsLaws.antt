@@ -1,16 +1,17 @@
 -- The calls on lent octets, way by way. Assumes nothing.
 use Prim.Native.Nat.{ℕ, _≤_, _<_}
-use mathlib.Core.Bool.{Bool, true, false}
+use mathlib.Core.Bool.{Bool, true, false, not, cond, _&&_}
 use mathlib.Core.Path.{_≡_, refl, sym, ap, _∙_}
 use mathlib.Core.List.{List}
 use lib.ListN.{length, replicate}
-use lib.Dec.{leb}
-use borrow.Author.Tests.{leb-true, leb-false}
-use Rattle.octets.proofs.Logic.{apart}
+use lib.Dec.{eqb}
+use borrow.Author.Tests.{eqb-true, eqb-false, not-true}
+use Rattle.octets.proofs.Logic.{apart, both-true}
 use Rattle.octets.specs.Octets.{over}
 use Rattle.frame.specs.Shape.{Voice, holdingShape}
-use Rattle.answers.specs.Outputs.{Writes, writtenOf}
-use Rattle.answers.proofs.OutputsLaws.{writes-as}
+use Rattle.answers.specs.Outputs.{Made, Writes}
+use Rattle.answers.specs.Outputs as outputs
+use Rattle.answers.proofs.OutputsLaws.{writes-as, writes-refusal}
 use Rattle.form.specs.declared.Form.{Form}
 use Rattle.answers.specs.declared.Refusal.{Refusal}
 use Rattle.answers.specs.declared.Refusal.the-variants.{NoRoom, NotApplicable}
@@ -20,23 +21,27 @@ use Rattle.holding.specs.declared.Holding.{Holding}
 use Rattle.holding.specs.Asked.{described, lostBetween}
 use Rattle.holding.specs.declared.Described.{Described}
 use Rattle.holding.specs.declared.Lost.{Lost}
+use Rattle.holding.proofs.GroupLaws.{some-frames}
 use Rattle.answers.specs.declared.Answer.{Answer}
 use Rattle.answers.specs.declared.Answer.the-variants as answer
 use Rattle.joining.specs.Joining.{joinOf}
 use Rattle.joining.specs.declared.Joined.{Joined}
 use Rattle.pouring.specs.Pouring.{poured}
-use Rattle.session.specs.Session.{vacant, neverOpened, openedFor, isOpen, refuse, offered, pourMade, ended, afterPour, copied, notDropped, dropped}
+use Rattle.session.specs.Session.{neverOpened, fresh, formRight, openedFor, isOpen, refuse, offered, pourMade, ended, noCopy, copied, notDropped, dropped}
 use Rattle.session.specs.declared.Session.{Session}
 use Rattle.session.specs.declared.Started.{Started}
 use Rattle.session.specs.declared.Offered.{Offered}
 use Rattle.session.specs.declared.Copied.{Copied}
 use Rattle.session.specs.declared.Dropped.{Dropped}
 use Rattle.session.specs.declared.Taken.the-variants as taken
+use Rattle.session.proofs.Ends.{open-vacant, refused-keeps}
+use Rattle.session.proofs.SessionLaws.{pour-closed, pour-vacant}
 use Rattle.lending.specs.Laid.{holdingIn, holdingLaid, sessionIn, sessionLaid}
+use Rattle.lending.specs.Parts.{hasGroup}
 use Rattle.lending.specs.Calls.{roomIn, thenRoom, layIf, layTaken, layWritten, openAnswer, openOctets, offerAnswer, offerOctets}
 use Rattle.lending.specs.Calls.{pourOf, pourOctets, copyAnswer, copyOctets, endAnswer, endOctets, joinAnswer, joinOctets, pourHeld}
 use Rattle.lending.specs.Calls.{dropAnswer, dropOctets, readHeld, lostOf}
-use Rattle.lending.proofs.LaidLaws.{long-enough, too-short, session-short}
+use Rattle.lending.proofs.LaidLaws.{long-enough, too-short}
 
 -- ---- room for what is given: 15, or w is laid out
 module _ (o w : List ℕ) where
@@ -64,14 +69,6 @@ module _ (a : Answer) (o w : List ℕ) where
   unfolding thenRoom
   ends-done r after x q e g = rw (q, ← e) g
 
--- ---- octets are enough, or say a session never opened
-or-short : (o : List ℕ) → (sessionIn o ≡ neverOpened holdingShape → 2304 ≤ length o) → 2304 ≤ length o
-or-short o f = go (leb 2304 (length o)) refl
-  where
-    go : (b : Bool) → leb 2304 (length o) ≡ b → 2304 ≤ length o
-    go true e = leb-true _ _ e
-    go false e = f (sym (session-short o (neverOpened holdingShape) (leb-false _ _ e) refl))
-
 -- ---- opening
 module _ (o : List ℕ) (source : ℕ) (form : Form) (s : Session) (x : Started) (e : s ≡ neverOpened holdingShape) (q : x ≡ openedFor holdingShape s source form) where
   began : x ≡ openedFor holdingShape (neverOpened holdingShape) source form
@@ -81,106 +78,149 @@ module _ (o : List ℕ) (source : ℕ) (form : Form) (s : Session) (x : Started)
   unfolding openAnswer openOctets
   open-refused r f = ends-refused _ o _ r (ap (λ (y : Started). y .answer) (sym began) ∙ f)
 
-  pub open-done : (r : Answer) (after : List ℕ) → x .answer ≡ answer.Done → Gives o (sessionLaid (x .session)) r after → (r ≡ openAnswer o source form) × (after ≡ openOctets o source form)
+  -- a session that was opened is fresh
+  abbrev ends-as : Bool → Started
+  ends-as b = cond b (record { answer = answer.Done; session = fresh holdingShape source form }) (record { answer = answer.Refused NotApplicable; session = neverOpened holdingShape })
+
+  opened-fresh : x .answer ≡ answer.Done → fresh holdingShape source form ≡ openedFor holdingShape (neverOpened holdingShape) source form .session
+  unfolding openedFor
+  opened-fresh f = go (formRight form) (ap (λ (y : Started). y .answer) (sym began) ∙ f)
+    where
+      go : (b : Bool) → ends-as b .answer ≡ answer.Done → fresh holdingShape source form ≡ ends-as b .session
+      go true h = refl
+      go false h = apart (cc)
+
+  pub open-done : (r : Answer) (after : List ℕ) → x .answer ≡ answer.Done → Gives o (sessionLaid (fresh holdingShape source form)) r after
+      → (r ≡ openAnswer o source form) × (after ≡ openOctets o source form)
   unfolding openAnswer openOctets
-  open-done r after f g = ends-done _ o _ r after _ (ap (λ (y : Started). y .answer) (sym began) ∙ f) (ap (λ (y : Started). sessionLaid (y .session)) began) g
+  open-done r after f g = ends-done _ o _ r after _ (ap (λ (y : Started). y .answer) (sym began) ∙ f) (ap sessionLaid (opened-fresh f)) g
 
 -- ---- offering
-module _ (v : Voice) (o : List ℕ) (source sequence timestamp : ℕ) (p : List ℕ) (s : Session) (x : Offered) (e : s ≡ sessionIn o) (q : x ≡ offered v s source sequence timestamp p) where
-  took : x ≡ offered v (sessionIn o) source sequence timestamp p
-  took = q ∙ ap (λ (t : Session). offered v t source sequence timestamp p) e
+module _ (v : Voice) (o : List ℕ) (source sequence timestamp : ℕ) (p : List ℕ) where
+  pub offer-closed : isOpen v (sessionIn o) ≡ false → (taken.Refused NotApplicable ≡ offerAnswer v o source sequence timestamp p) × (o ≡ offerOctets v o source sequence timestamp p)
+  unfolding offerAnswer offerOctets layTaken offered refuse
+  offer-closed e = let z : offered v (sessionIn o) source sequence timestamp p .answer ≡ taken.Refused NotApplicable = simp e in rw z (refl, refl)
 
-  answered : offered v (sessionIn o) source sequence timestamp p .answer ≡ x .answer
-  answered = ap (λ (y : Offered). y .answer) (sym took)
+  module _ (x : Offered) (q : x ≡ offered v (sessionIn o) source sequence timestamp p) where
+    answered : offered v (sessionIn o) source sequence timestamp p .answer ≡ x .answer
+    answered = ap (λ (y : Offered). y .answer) (sym q)
 
-  pub offer-refused : (r : Refusal) → x .answer ≡ taken.Refused r → (taken.Refused r ≡ offerAnswer v o source sequence timestamp p) × (o ≡ offerOctets v o source sequence timestamp p)
-  unfolding offerAnswer offerOctets layTaken
-  offer-refused r f = rw (answered ∙ f) (refl, refl)
+    -- a refused offer leaves the session as it was
+    pub offer-keeps : (r : Refusal) → x .answer ≡ taken.Refused r → x .session ≡ sessionIn o
+    offer-keeps r f = ap (λ (y : Offered). y .session) q ∙ refused-keeps v (sessionIn o) source sequence timestamp p r (answered ∙ f)
 
-  pub offer-accepted :
-      (lost : ℕ) (after : List ℕ) →
-      x .answer ≡ taken.Accepted lost →
-      after ≡ over o 0 (sessionLaid (x .session)) →
-      (taken.Accepted lost ≡ offerAnswer v o source sequence timestamp p) × (after ≡ offerOctets v o source sequence timestamp p)
-  unfolding offerAnswer offerOctets layTaken
-  offer-accepted lost after f g = rw (answered ∙ f) (refl, g ∙ ap (λ (y : Offered). over o 0 (sessionLaid (y .session))) took)
+    pub offer-refused : (r : Refusal) (after : List ℕ) → x .answer ≡ taken.Refused r → after ≡ o
+        → (taken.Refused r ≡ offerAnswer v o source sequence timestamp p) × (after ≡ offerOctets v o source sequence timestamp p)
+    unfolding offerAnswer offerOctets layTaken
+    offer-refused r after f g = rw (answered ∙ f) (refl, g)
 
-  -- a session that is too short takes nothing
-  pub accepted-long : (lost : ℕ) → x .answer ≡ taken.Accepted lost → 2304 ≤ length o
-  unfolding offered isOpen neverOpened vacant refuse
-  accepted-long lost f = or-short o none
+    pub offer-accepted :
+        (lost : ℕ) (after : List ℕ) →
+        x .answer ≡ taken.Accepted lost →
+        after ≡ over o 0 (sessionLaid (x .session)) →
+        (taken.Accepted lost ≡ offerAnswer v o source sequence timestamp p) × (after ≡ offerOctets v o source sequence timestamp p)
+    unfolding offerAnswer offerOctets layTaken
+    offer-accepted lost after f g = rw (answered ∙ f) (refl, g ∙ ap (λ (y : Offered). over o 0 (sessionLaid (y .session))) q)
+
+-- ---- whether a group is held: none is where the session is not open, or has no frame to a packet
+data NoGroup (v : Voice) (s : Session) : Type 0 where
+  closed : isOpen v s ≡ false → NoGroup v s
+  empty : isOpen v s ≡ true → s .group .b ≡ 0 → NoGroup v s
+
+module _ (v : Voice) (s : Session) where
+  no-group : hasGroup v s ≡ false → NoGroup v s
+  unfolding hasGroup
+  no-group h = go (isOpen v s) refl (eqb (s .group .b) 0) refl
     where
-      none : sessionIn o ≡ neverOpened holdingShape → 2304 ≤ length o
-      none z =
-          let n : taken.Refused NotApplicable ≡ taken.Accepted lost =
-          ap (λ (t : Session). offered v t source sequence timestamp p .answer) (sym z) ∙ answered ∙ f in
+      go : (x : Bool) → isOpen v s ≡ x → (y : Bool) → eqb (s .group .b) 0 ≡ y → NoGroup v s
+      go false e y f = closed e
+      go true e true f = empty e (eqb-true _ _ f)
+      go true e false f =
+          let z : isOpen v s && not (eqb (s .group .b) 0) ≡ true = simp (e, f) in
+          let w : false ≡ true = sym h ∙ z in
           apart (cc)
+
+  pub group-held : hasGroup v s ≡ true → (isOpen v s ≡ true) × (s .group .b ≡ 0 → ⊥)
+  unfolding hasGroup
+  group-held h =
+      let p = both-true (isOpen v s) (not (eqb (s .group .b) 0)) h in
+      (p .0, eqb-false _ _ (not-true _ (p .1)))
+
+  pub group-closed : isOpen v s ≡ false → false ≡ hasGroup v s
+  unfolding hasGroup
+  group-closed e = simp e
+
+  pub group-by : (b : ℕ) → isOpen v s ≡ true → b ≡ s .group .b → not (eqb b 0) ≡ hasGroup v s
+  unfolding hasGroup
+  group-by b e f = simp (e, f)
 
 -- ---- pouring
-module _ (v : Voice) (o before : List ℕ) (s t : Session) (w : Written) (after : List ℕ) (e : s ≡ sessionIn o) (q : Writes (pourMade v s) before w after × (t ≡ afterPour holdingShape s w)) where
-  poured-as : pourOf v o ≡ pourMade v s
-  unfolding pourOf
-  poured-as = ap (pourMade v) (sym e)
-
-  pub pour-refused : (r : Refusal) → w ≡ written.Refused r → Writes (pourOf v o) before (written.Refused r) after × (o ≡ pourOctets o (written.Refused r))
-  unfolding pourOctets layWritten
-  pour-refused r f = (writes-as _ _ _ _ _ poured-as (rw (← f) (q .0)), refl)
-
-  pub pour-octets : (n : ℕ) (next : List ℕ) → w ≡ written.Octets n → next ≡ over o 0 (sessionLaid t) → Writes (pourOf v o) before (written.Octets n) after × (next ≡ pourOctets o (written.Octets n))
-  unfolding pourOctets layWritten afterPour
-  pour-octets n next f g =
-      let z : t ≡ ended holdingShape (sessionIn o) = q .1 ∙ ap (afterPour holdingShape s) f ∙ ap (ended holdingShape) e in
-      (writes-as _ _ _ _ _ poured-as (rw (← f) (q .0)), g ∙ ap (λ (y : Session). over o 0 (sessionLaid y)) z)
-
-  -- a session that is too short pours nothing
-  pub poured-long : (n : ℕ) → w ≡ written.Octets n → 2304 ≤ length o
-  unfolding pourMade isOpen neverOpened vacant writtenOf
-  poured-long n f = or-short o none
+module _ (v : Voice) (o before : List ℕ) where
+  pub pour-none : hasGroup v (sessionIn o) ≡ false → Writes (pourOf v o) before (written.Refused NotApplicable) before × (o ≡ pourOctets o (written.Refused NotApplicable))
+  unfolding pourOf pourOctets layWritten
+  pour-none h = (writes-refusal _ _ _ (none (no-group v (sessionIn o) h)), refl)
     where
-      none : sessionIn o ≡ neverOpened holdingShape → 2304 ≤ length o
-      none z =
-          let m : written.Refused NotApplicable ≡ written.Octets n =
-          sym (q .0 .answer ∙ ap (λ (y : Session). writtenOf (pourMade v y) before) (e ∙ z)) ∙ f in
-          apart (cc)
+      none : NoGroup v (sessionIn o) → pourMade v (sessionIn o) ≡ outputs.refusedOutput NotApplicable
+      none (closed e) = pour-closed v (sessionIn o) e
+      none (empty e f) = pour-vacant v (sessionIn o) e f
+
+  module _ (after : List ℕ) (w : Written) (m : Made) (e : pourMade v (sessionIn o) ≡ m) (q : Writes m before w after) where
+    poured-so : (r : Written) → w ≡ r → Writes (pourOf v o) before r after
+    unfolding pourOf
+    poured-so r f = writes-as _ _ _ _ _ e (rw (← f) q)
+
+    pub pour-refused : (r : Refusal) → w ≡ written.Refused r → Writes (pourOf v o) before (written.Refused r) after × (o ≡ pourOctets o (written.Refused r))
+    unfolding pourOctets layWritten
+    pour-refused r f = (poured-so (written.Refused r) f, refl)
+
+    pub pour-octets : (n : ℕ) (next : List ℕ) → w ≡ written.Octets n → next ≡ over o 0 (sessionLaid (ended holdingShape (sessionIn o)))
+        → Writes (pourOf v o) before (written.Octets n) after × (next ≡ pourOctets o (written.Octets n))
+    unfolding pourOctets layWritten
+    pour-octets n next f g = (poured-so (written.Octets n) f, g)
 
 -- ---- copying out
-module _ (v : Voice) (o out : List ℕ) (s : Session) (x : Copied) (e : s ≡ sessionIn o) (q : x ≡ copied v s) where
-  copied-as : x ≡ copied v (sessionIn o)
-  copied-as = q ∙ ap (copied v) e
+module _ (v : Voice) (o out : List ℕ) where
+  none-copied : NoGroup v (sessionIn o) → copied v (sessionIn o) .answer ≡ answer.Refused NotApplicable
+  unfolding copied noCopy
+  none-copied (closed e) = simp e
+  none-copied (empty e f) = simp (e, open-vacant v (sessionIn o) e f)
 
-  pub copy-refused : (r : Refusal) → x .answer ≡ answer.Refused r → (answer.Refused r ≡ copyAnswer v o out) × (out ≡ copyOctets v o out)
+  pub copy-none : hasGroup v (sessionIn o) ≡ false → (answer.Refused NotApplicable ≡ copyAnswer v o out) × (out ≡ copyOctets v o out)
   unfolding copyAnswer copyOctets
-  copy-refused r f = ends-refused _ out _ r (ap (λ (y : Copied). y .answer) (sym copied-as) ∙ f)
+  copy-none h = ends-refused _ out _ NotApplicable (none-copied (no-group v (sessionIn o) h))
 
-  pub copy-done : (r : Answer) (after : List ℕ) → x .answer ≡ answer.Done → Gives out (holdingLaid (x .holding)) r after → (r ≡ copyAnswer v o out) × (after ≡ copyOctets v o out)
+  one-copied : hasGroup v (sessionIn o) ≡ true → copied v (sessionIn o) ≡ record { answer = answer.Done; holding = sessionIn o .group }
+  unfolding copied
+  one-copied h = let p = group-held v (sessionIn o) h in simp (p .0, some-frames (v .shape) (sessionIn o .group) (p .1))
+
+  pub copy-done : hasGroup v (sessionIn o) ≡ true → (r : Answer) (after : List ℕ) → Gives out (holdingLaid (sessionIn o .group)) r after
+      → (r ≡ copyAnswer v o out) × (after ≡ copyOctets v o out)
   unfolding copyAnswer copyOctets
-  copy-done r after f g = ends-done _ out _ r after _ (ap (λ (y : Copied). y .answer) (sym copied-as) ∙ f) (ap (λ (y : Copied). holdingLaid (y .holding)) copied-as) g
+  copy-done h r after g =
+      let c = one-copied h in
+      ends-done _ out _ r after _ (ap (λ (y : Copied). y .answer) c) (sym (ap (λ (y : Copied). holdingLaid (y .holding)) c)) g
 
 -- ---- dropping
-module _ (v : Voice) (o : List ℕ) (s : Session) (x : Dropped) (e : s ≡ sessionIn o) (q : x ≡ dropped v s) where
-  dropped-as : x ≡ dropped v (sessionIn o)
-  dropped-as = q ∙ ap (dropped v) e
+module _ (v : Voice) (o : List ℕ) where
+  none-dropped : NoGroup v (sessionIn o) → dropped v (sessionIn o) .answer ≡ answer.Refused NotApplicable
+  unfolding dropped notDropped
+  none-dropped (closed e) = simp e
+  none-dropped (empty e f) = simp (e, open-vacant v (sessionIn o) e f)
 
-  answered-drop : dropped v (sessionIn o) .answer ≡ x .answer
-  answered-drop = ap (λ (y : Dropped). y .answer) (sym dropped-as)
-
-  pub drop-refused : (r : Refusal) → x .answer ≡ answer.Refused r → (answer.Refused r ≡ dropAnswer v o) × (o ≡ dropOctets v o)
+  pub drop-none : hasGroup v (sessionIn o) ≡ false → (answer.Refused NotApplicable ≡ dropAnswer v o) × (o ≡ dropOctets v o)
   unfolding dropAnswer dropOctets layIf
-  drop-refused r f = rw (answered-drop ∙ f) (refl, refl)
+  drop-none h = rw (none-dropped (no-group v (sessionIn o) h)) (refl, refl)
 
-  pub drop-done : (after : List ℕ) → x .answer ≡ answer.Done → after ≡ over o 0 (sessionLaid (x .session)) → (answer.Done ≡ dropAnswer v o) × (after ≡ dropOctets v o)
+  one-dropped : hasGroup v (sessionIn o) ≡ true → dropped v (sessionIn o) ≡ record { answer = answer.Done; session = ended (v .shape) (sessionIn o) }
+  unfolding dropped
+  one-dropped h = let p = group-held v (sessionIn o) h in simp (p .0, some-frames (v .shape) (sessionIn o .group) (p .1))
+
+  pub drop-done : hasGroup v (sessionIn o) ≡ true → (after : List ℕ) → after ≡ over o 0 (sessionLaid (ended (v .shape) (sessionIn o)))
+      → (answer.Done ≡ dropAnswer v o) × (after ≡ dropOctets v o)
   unfolding dropAnswer dropOctets layIf
-  drop-done after f g = rw (answered-drop ∙ f) (refl, g ∙ ap (λ (y : Dropped). over o 0 (sessionLaid (y .session))) dropped-as)
-
-  -- a session that is too short drops nothing
-  pub dropped-long : x .answer ≡ answer.Done → 2304 ≤ length o
-  unfolding dropped notDropped isOpen neverOpened vacant
-  dropped-long f = or-short o none
-    where
-      none : sessionIn o ≡ neverOpened holdingShape → 2304 ≤ length o
-      none z =
-          let n : answer.Refused NotApplicable ≡ answer.Done = ap (λ (t : Session). dropped v t .answer) (sym z) ∙ answered-drop ∙ f in
-          apart (cc)
+  drop-done h after g =
+      let c = one-dropped h in
+      rw (ap (λ (y : Dropped). y .answer) c) (refl, g ∙ ap (λ (y : Dropped). over o 0 (sessionLaid (y .session))) (sym c))
 
 -- ---- ending
 pub end-short : (o : List ℕ) → length o < 2304 → (answer.Refused NoRoom ≡ endAnswer o) × (o ≡ endOctets o)

@@ -9,7 +9,8 @@ use native.Mathlib.Omega.{arith}
 use lib.Dec.{eqb}
 use lib.ListN.{length, take, drop, getD, set, replicate, length-map, length-replicate, length-take, length-drop}
 use lib.Seq.{paste, paste-suc, take-all, getD-take, getD-drop}
-use borrow.Author.Tests.{le-leb, lt-leb, eq-eqb, ne-eqb}
+use borrow.Author.Tests.{le-leb, lt-leb, eq-eqb, ne-eqb, leb-true}
+use Rattle.octets.proofs.Logic.{both-true}
 use Rattle.octets.specs.Octets.{over, shifted, sameOctets, twoAt, fourAt, twoOctets, fourOctets}
 use Rattle.octets.proofs.OctetsLaws.{over-append, over-whole, changed-at, set-three, part-is, length-two, length-four}
 use Rattle.form.specs.declared.Limits.{Limits}
@@ -19,17 +20,15 @@ use Rattle.frame.specs.Shape.{holdingShape}
 use Rattle.holding.specs.Group.{Shaped, nothing}
 use Rattle.holding.specs.declared.Holding.{Holding}
 use Rattle.joining.proofs.Heads.{same-fields}
-use Rattle.session.specs.Session.{neverOpened}
 use Rattle.session.specs.declared.Session.{Session}
-use Rattle.lending.specs.Laid.{flagOctet, isSet, isLong, isLaid, numberOctets, frameOctets, holdingOctets, holdingAt, isHolding}
-use Rattle.lending.specs.Laid.{holdingIn, holdingLaid, formOctets, formAt, lastOctets, sessionHead, sessionLaid, sessionAt}
-use Rattle.lending.specs.Laid.{isSession, sessionIn}
-use Rattle.lending.proofs.Pieces.{A, B, C, D, F, N, M, O, G, S, P, Q, K, E, Z, T, length-ab, length-abc, length-abcd, length-numbers, length-f}
-use Rattle.lending.proofs.Pieces.{length-fn, length-fnm, length-holding, length-og, length-ogs, length-ogsp, length-ke, length-kez, length-ogspq}
-use Rattle.lending.proofs.Pieces.{length-head, length-grouped}
+use Rattle.lending.specs.Laid.{flagOctet, isSet, isLong, isLaid, numberOctets, holdingOctets, holdingAt, isHolding}
+use Rattle.lending.specs.Laid.{holdingIn, holdingLaid, formOctets, formAt, lastOctets, sessionHead}
+use Rattle.lending.specs.Parts.{typeOctets, groupOctets}
+use Rattle.lending.proofs.Pieces.{A, B, C, D, F, M, O, G, S, P, Q, K, E, Z, T, length-ab, length-abc, length-abcd, length-numbers, length-f}
+use Rattle.lending.proofs.Pieces.{length-fn, length-group, holding-parts, length-holding, length-og, length-ogs, length-ogsp, length-ke, length-kez, length-ogspq}
 
 -- ---- one piece more behind what was laid out: both are laid out together
-lay-more : (d e f : List ℕ) (at n : ℕ) (xs ys : List ℕ) → at ≤ length d → e ≡ over d at xs → n ≡ at + length xs → f ≡ over e n ys → f ≡ over d at (xs ++ ys)
+pub lay-more : (d e f : List ℕ) (at n : ℕ) (xs ys : List ℕ) → at ≤ length d → e ≡ over d at xs → n ≡ at + length xs → f ≡ over e n ys → f ≡ over d at (xs ++ ys)
 lay-more d e f at n xs ys h p q r = r ∙ ap (λ (i : ℕ). over e i ys) q ∙ ap (λ (l : List ℕ). over l (at + length xs) ys) p ∙ over-append d at xs ys h
 
 -- ---- flags
@@ -93,6 +92,13 @@ pub put-interleaved :
 unfolding formOctets
 put-interleaved f m d at q h = set-three d at 1 (m .«max_l») (m .«max_b») h ∙ ap (λ (g : Form). over d at (formOctets g)) (sym q)
 
+-- ---- which packets are held, and the types
+pub types-laid : (hs : List Bool) (ms d : List ℕ) (at : ℕ) → at ≤ length d → length hs ≡ 8 → (o₁ o₂ o₃ : List ℕ) → o₁ ≡ over d at (map flagOctet hs)
+    → o₂ ≡ over o₁ (at + 8) (replicate 8 0) → o₃ ≡ over o₂ (at + 16) (map (shifted 242) ms) → o₃ ≡ over d at (typeOctets hs ms)
+types-laid hs ms d at le x o₁ o₂ o₃ e₁ e₂ e₃ =
+    let s₂ = lay-more d o₁ o₂ at (at + 8) (F hs ms) (replicate 8 0) le e₁ (omega (arith, length-f hs ms x)) e₂ in
+    lay-more d o₂ o₃ at (at + 16) (F hs ms ++ replicate 8 0) (M hs ms) le s₂ (omega (arith, length-fn hs ms x)) e₃
+
 -- ---- a holding
 module _ (h : Holding) (d : List ℕ) (at : ℕ) (le : at ≤ length d) where
   pub numbers-laid : (o₁ o₂ o₃ o₄ o₅ : List ℕ) → o₁ ≡ over d at (fourOctets (h .source)) → o₂ ≡ over o₁ (at + 4) (twoOctets (h .sequence))
@@ -105,17 +111,14 @@ module _ (h : Holding) (d : List ℕ) (at : ℕ) (le : at ≤ length d) where
       let s₄ = lay-more d o₃ o₄ at (at + 10) (A h ++ B h ++ C h) (D h) le s₃ (omega (arith, length-abc h)) e₄ in
       lay-more d o₄ o₅ at (at + 12) (A h ++ B h ++ C h ++ D h) (replicate 4 0) le s₄ (omega (arith, length-abcd h)) e₅
 
-  pub frames-laid : Shaped holdingShape h → (o₁ o₂ o₃ o₄ : List ℕ) → o₁ ≡ over d at (map flagOctet (h .held)) → o₂ ≡ over o₁ (at + 8) (replicate 8 0)
-      → o₃ ≡ over o₂ (at + 16) (map (shifted 242) (h .marks)) → o₄ ≡ over o₃ (at + 96) (h .room) → o₄ ≡ over d at (frameOctets h)
-  unfolding frameOctets
-  frames-laid x o₁ o₂ o₃ o₄ e₁ e₂ e₃ e₄ =
-      let s₂ = lay-more d o₁ o₂ at (at + 8) (F h) (N h) le e₁ (omega (arith, length-f h x)) e₂ in
-      let s₃ = lay-more d o₂ o₃ at (at + 16) (F h ++ N h) (M h) le s₂ (omega (arith, length-fn h x)) e₃ in
-      lay-more d o₃ o₄ at (at + 96) (F h ++ N h ++ M h) (h .room) le s₃ (omega (arith, length-fnm h x)) e₄
+  pub group-laid : (o₁ o₂ : List ℕ) → o₁ ≡ over d at (numberOctets h) → o₂ ≡ over o₁ (at + 16) (typeOctets (h .held) (h .marks)) → o₂ ≡ over d at (groupOctets h)
+  unfolding groupOctets
+  group-laid o₁ o₂ e₁ e₂ =
+      lay-more d o₁ o₂ at (at + 16) (numberOctets h) (typeOctets (h .held) (h .marks)) le e₁ (ap (λ (i : ℕ). at + i) (sym (length-numbers h))) e₂
 
-  pub holding-laid : (o₁ o₂ : List ℕ) → o₁ ≡ over d at (numberOctets h) → o₂ ≡ over o₁ (at + 16) (frameOctets h) → o₂ ≡ over d at (holdingOctets h)
-  unfolding holdingOctets
-  holding-laid o₁ o₂ e₁ e₂ = lay-more d o₁ o₂ at (at + 16) (numberOctets h) (frameOctets h) le e₁ (ap (λ (i : ℕ). at + i) (sym (length-numbers h))) e₂
+  pub holding-laid : Shaped holdingShape h → (o₁ o₂ : List ℕ) → o₁ ≡ over d at (groupOctets h) → o₂ ≡ over o₁ (at + 112) (h .room) → o₂ ≡ over d at (holdingOctets h)
+  holding-laid x o₁ o₂ e₁ e₂ =
+      lay-more d o₁ o₂ at (at + 112) (groupOctets h) (h .room) le e₁ (ap (λ (i : ℕ). at + i) (sym (length-group h x))) e₂ ∙ ap (over d at) (sym (holding-parts h))
 
 -- reading one: field by field
 pub holding-read :
@@ -167,23 +170,6 @@ all-of-holding h x d e f p q =
     let z : 0 ≤ length d = omega arith in
     lay-more d e f 0 1872 (holdingOctets h) (replicate 432 0) z p l q
 
-pub all-of-session :
-    (s : Session) →
-    Shaped holdingShape (s .group) →
-    (d e f g : List ℕ) →
-    e ≡ over d 0 (sessionHead s) →
-    f ≡ over e 32 (holdingOctets (s .group)) →
-    g ≡ over f 1904 (replicate 400 0) →
-    g ≡ over d 0 (sessionLaid s)
-unfolding sessionLaid
-all-of-session s x d e f g p q r =
-    let h = sessionHead s in
-    let o = holdingOctets (s .group) in
-    let l : 32 ≡ 0 + length h = omega (arith, length-head s) in
-    let k : 1904 ≡ 0 + length (h ++ o) = omega (arith, length-grouped s x) in
-    let z : 0 ≤ length d = omega arith in
-    lay-more d f g 0 1904 (h ++ o) (replicate 400 0) z (lay-more d e f 0 32 h o z p l q) k r
-
 -- ---- what lent octets are read as
 pub long-enough : (o : List ℕ) → 2304 ≤ length o → isLong o ≡ true
 unfolding isLong
@@ -192,6 +178,23 @@ long-enough o h = le-leb _ _ h
 pub too-short : (o : List ℕ) → length o < 2304 → isLong o ≡ false
 unfolding isLong
 too-short o h = lt-leb _ _ h
+
+pub laid-long : (o w : List ℕ) → isLaid o w ≡ true → 2304 ≤ length o
+unfolding isLaid isLong
+laid-long o w e = leb-true _ _ (both-true (isLong o) _ e .0)
+
+-- what is read is as long as its type makes it
+pub at-shaped : (o : List ℕ) (at : ℕ) → at + 1872 ≤ length o → Shaped holdingShape (holdingAt o at)
+unfolding holdingAt
+at-shaped o at h =
+    record {
+      long-held = length-map (take 8 (drop (at + 16) o)) isSet ∙ window (at + 16) 8 (omega arith);
+      long-marks = length-map (take 80 (drop (at + 32) o)) (shifted 14) ∙ window (at + 32) 80 (omega arith);
+      long-room = window (at + 112) 1760 (omega arith);
+    }
+  where
+    window : (k n : ℕ) → k + n ≤ length o → length (take n (drop k o)) ≡ n
+    window k n p = simp (length-take, length-drop) (omega arith)
 
 -- w was laid out in an array of its length, and that was compared
 pub laid-again : (o d e w : List ℕ) (r : Bool) → 2304 ≤ length o → length d ≡ 2304 → length w ≡ 2304 → e ≡ over d 0 w → r ≡ sameOctets e (take (2304 - 0) (drop 0 o)) → r ≡ isLaid o w
@@ -210,26 +213,3 @@ module _ (o : List ℕ) (h : Holding) where
   pub holding-short : length o < 2304 → h ≡ nothing holdingShape → h ≡ holdingIn o
   unfolding holdingIn isHolding isLaid
   holding-short k n = n ∙ simp (too-short o k)
-
-module _ (o : List ℕ) (s : Session) where
-  pub session-there : isLaid o (sessionLaid s) ≡ true → s ≡ sessionAt o → s ≡ sessionIn o
-  unfolding sessionIn isSession
-  session-there e q = let z : isLaid o (sessionLaid (sessionAt o)) ≡ true = ap (λ (y : Session). isLaid o (sessionLaid y)) (sym q) ∙ e in q ∙ simp z
-
-  pub session-none : (t : Session) → isLaid o (sessionLaid t) ≡ false → t ≡ sessionAt o → s ≡ neverOpened holdingShape → s ≡ sessionIn o
-  unfolding sessionIn isSession
-  session-none t e q n = let z : isLaid o (sessionLaid (sessionAt o)) ≡ false = ap (λ (y : Session). isLaid o (sessionLaid y)) (sym q) ∙ e in n ∙ simp z
-
-  pub session-short : length o < 2304 → s ≡ neverOpened holdingShape → s ≡ sessionIn o
-  unfolding sessionIn isSession isLaid
-  session-short k n = n ∙ simp (too-short o k)
-
-same-session : {o o′ p p′ : Bool} {s s′ q q′ t t′ l l′ b b′ : ℕ} {f f′ : Form} {g g′ : Holding} → o ≡ o′ → s ≡ s′ → f ≡ f′ → g ≡ g′ → p ≡ p′ → q ≡ q′ → t ≡ t′ → l ≡ l′ → b ≡ b′
-    → _≡_ {A = Session} (record { «open» = o; source = s; form = f; group = g; poured = p; «last_sequence» = q; «last_timestamp» = t; «last_l» = l; «last_b» = b })
-    (record { «open» = o′; source = s′; form = f′; group = g′; poured = p′; «last_sequence» = q′; «last_timestamp» = t′; «last_l» = l′; «last_b» = b′ })
-same-session a b c d e f g h i = cc
-
-pub session-read : (o : List ℕ) (s : Session) → s .«open» ≡ eqb (getD o 0 0) 1 → s .source ≡ fourAt o 4 → s .form ≡ formAt o 1 → s .group ≡ holdingAt o 32 → s .poured ≡ eqb (getD o 8 0) 1
-    → s .«last_sequence» ≡ twoAt o 9 → s .«last_timestamp» ≡ fourAt o 16 → s .«last_l» ≡ getD o 11 0 → s .«last_b» ≡ getD o 12 0 → s ≡ sessionAt o
-unfolding sessionAt
-session-read o s a b c d e f g h i = same-session a b c d e f g h i

@@ -1,3 +1,4 @@
 pub mod Pieces
 pub mod LaidLaws
+pub mod PartsLaws
 pub mod CallsLaws

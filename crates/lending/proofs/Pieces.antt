@@ -1,8 +1,8 @@
 -- The pieces that a holding and a session are laid out in, and how long each beginning is. Assumes nothing.
 use Prim.Native.Nat.{ℕ, _+_}
 use mathlib.Core.Bool.{Bool, true, false, cond}
-use mathlib.Core.Path.{_≡_, refl, ap₂, _∙_}
-use mathlib.Core.List.{List, [], _∷_, _++_, map}
+use mathlib.Core.Path.{_≡_, refl, sym, ap, ap₂, _∙_}
+use mathlib.Core.List.{List, [], _∷_, _++_, map, append-assoc}
 use native.Mathlib.Omega.{arith}
 use lib.ListN.{length, replicate, length-append, length-map, length-replicate}
 use Rattle.octets.specs.Octets.{shifted, twoOctets, fourOctets}
@@ -15,8 +15,34 @@ use Rattle.holding.specs.declared.Holding.{Holding}
 use Rattle.session.specs.declared.Session.{Session}
 use Rattle.lending.specs.Laid.{flagOctet, numberOctets, frameOctets, holdingOctets, holdingLaid, formOctets, lastOctets}
 use Rattle.lending.specs.Laid.{sessionHead, sessionLaid}
+use Rattle.lending.specs.Parts.{typeOctets, groupOctets, frontOctets}
 
--- ---- a holding
+-- ---- which packets are held, and the types
+module _ (hs : List Bool) (ms : List ℕ) where
+  abbrev pub F : List ℕ
+  F = map flagOctet hs
+
+  abbrev pub M : List ℕ
+  M = map (shifted 242) ms
+
+  pub length-m : length ms ≡ 80 → length M ≡ 80
+  length-m y = length-map ms (shifted 242) ∙ y
+
+  module _ (x : length hs ≡ 8) where
+    pub length-f : length F ≡ 8
+    length-f = length-map hs flagOctet ∙ x
+
+    pub length-fn : length (F ++ replicate 8 0) ≡ 16
+    length-fn = length-append F (replicate 8 0) ∙ omega (arith, length-f)
+
+    pub length-types : length ms ≡ 80 → length (typeOctets hs ms) ≡ 96
+    length-types y = length-append (F ++ replicate 8 0) M ∙ ap₂ _+_ length-fn (length-m y)
+
+-- ---- a holding: its bodies lie behind all the rest of it
+pub holding-parts : (h : Holding) → holdingOctets h ≡ groupOctets h ++ h .room
+unfolding holdingOctets groupOctets frameOctets
+holding-parts h = sym (append-assoc (numberOctets h) (typeOctets (h .held) (h .marks)) (h .room))
+
 module _ (h : Holding) where
   abbrev pub A : List ℕ
   A = fourOctets (h .source)
@@ -29,15 +55,6 @@ module _ (h : Holding) where
 
   abbrev pub D : List ℕ
   D = h .l ∷ h .b ∷ []
-
-  abbrev pub F : List ℕ
-  F = map flagOctet (h .held)
-
-  abbrev pub N : List ℕ
-  N = replicate 8 0
-
-  abbrev pub M : List ℕ
-  M = map (shifted 242) (h .marks)
 
   pub length-ab : length (A ++ B) ≡ 6
   length-ab = length-append A B ∙ ap₂ _+_ (length-four (h .source)) (length-two (h .sequence))
@@ -53,25 +70,13 @@ module _ (h : Holding) where
   length-numbers = length-append (A ++ B ++ C ++ D) (replicate 4 0) ∙ omega (arith, length-abcd)
 
   module _ (x : Shaped holdingShape h) where
-    pub length-f : length F ≡ 8
-    length-f = length-map (h .held) flagOctet ∙ x .long-held
-
-    pub length-m : length M ≡ 80
-    length-m = length-map (h .marks) (shifted 242) ∙ x .long-marks
-
-    pub length-fn : length (F ++ N) ≡ 16
-    length-fn = length-append F N ∙ omega (arith, length-f)
-
-    pub length-fnm : length (F ++ N ++ M) ≡ 96
-    length-fnm = length-append (F ++ N) M ∙ ap₂ _+_ length-fn length-m
-
-    length-frames : length (frameOctets h) ≡ 1856
-    unfolding frameOctets
-    length-frames = length-append (F ++ N ++ M) (h .room) ∙ ap₂ _+_ length-fnm (x .long-room)
+    pub length-group : length (groupOctets h) ≡ 112
+    unfolding groupOctets
+    length-group =
+        length-append (numberOctets h) (typeOctets (h .held) (h .marks)) ∙ ap₂ _+_ length-numbers (length-types (h .held) (h .marks) (x .long-held) (x .long-marks))
 
     pub length-holding : length (holdingOctets h) ≡ 1872
-    unfolding holdingOctets
-    length-holding = length-append (numberOctets h) (frameOctets h) ∙ ap₂ _+_ length-numbers length-frames
+    length-holding = ap length (holding-parts h) ∙ length-append (groupOctets h) (h .room) ∙ ap₂ _+_ length-group (x .long-room)
 
     pub length-holding-laid : length (holdingLaid h) ≡ 2304
     unfolding holdingLaid
@@ -142,10 +147,24 @@ module _ (s : Session) where
   unfolding sessionHead
   length-head = length-append (O ++ G ++ S ++ P ++ Q) (replicate 12 0) ∙ omega (arith, length-ogspq)
 
-  pub length-grouped : Shaped holdingShape (s .group) → length (sessionHead s ++ holdingOctets (s .group)) ≡ 1904
-  length-grouped x = length-append (sessionHead s) (holdingOctets (s .group)) ∙ ap₂ _+_ length-head (length-holding (s .group) x)
+  -- a session's, too: before the bodies of its group, the bodies, and zeros behind them
+  pub session-parts : sessionLaid s ≡ frontOctets s ++ s .group .room ++ replicate 400 0
+  unfolding sessionLaid frontOctets
+  session-parts =
+      ap (λ (w : List ℕ). w ++ replicate 400 0)
+      (ap (λ (w : List ℕ). sessionHead s ++ w) (holding-parts (s .group)) ∙ sym (append-assoc (sessionHead s) (groupOctets (s .group)) (s .group .room)))
 
-  pub length-session-laid : Shaped holdingShape (s .group) → length (sessionLaid s) ≡ 2304
-  unfolding sessionLaid
-  length-session-laid x =
-      length-append (sessionHead s ++ holdingOctets (s .group)) (replicate 400 0) ∙ ap₂ _+_ (length-grouped x) (length-replicate {A = ℕ} 400 0)
+  module _ (x : Shaped holdingShape (s .group)) where
+    pub length-grouped : length (sessionHead s ++ holdingOctets (s .group)) ≡ 1904
+    length-grouped = length-append (sessionHead s) (holdingOctets (s .group)) ∙ ap₂ _+_ length-head (length-holding (s .group) x)
+
+    pub length-front : length (frontOctets s) ≡ 144
+    unfolding frontOctets
+    length-front = length-append (sessionHead s) (groupOctets (s .group)) ∙ ap₂ _+_ length-head (length-group (s .group) x)
+
+    pub length-before : length (frontOctets s ++ s .group .room) ≡ 1904
+    length-before = length-append (frontOctets s) (s .group .room) ∙ ap₂ _+_ length-front (x .long-room)
+
+    pub length-session-laid : length (sessionLaid s) ≡ 2304
+    length-session-laid =
+        ap length session-parts ∙ length-append (frontOctets s ++ s .group .room) (replicate 400 0) ∙ ap₂ _+_ length-before (length-replicate {A = ℕ} 400 0)

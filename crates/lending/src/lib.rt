@@ -8,23 +8,35 @@ use form::Limits;
 use holding::Described;
 use holding::Holding;
 use holding::Lost;
-use session::Session;
+use numbers::GroupNumbers;
+use session::Decision;
+use session::Standing;
+use session::Stood;
 use session::Taken;
 ghost use mathlib.Core.Path.{_≡_};
-ghost use mathlib.Core.List.{[], _∷_, map};
-ghost use Prim.Native.Nat.{_+_, _≤_};
+ghost use mathlib.Core.Bool.{Bool};
+ghost use mathlib.Core.List.{List, [], _∷_, map};
+ghost use Prim.Native.Nat.{ℕ, _+_, _≤_};
 ghost use lib.ListN.{length, take, drop};
 ghost use Rattle.answers.specs.Outputs.{Writes};
 ghost use Rattle.octets.specs.Octets.{over, shifted};
 ghost use Rattle.lending.specs.Calls.{openAnswer, openOctets, offerAnswer, offerOctets, pourOf, pourOctets, copyAnswer};
 ghost use Rattle.lending.specs.Calls.{copyOctets, endAnswer, endOctets, joinAnswer, joinOctets, pourHeld, roomIn, layIf};
 ghost use Rattle.lending.specs.Calls.{dropAnswer, dropOctets, readHeld, lostOf};
-ghost use Rattle.lending.specs.Laid.{sessionVoice, holdingVoice, flagOctet, isSet, numberOctets, frameOctets, holdingOctets, holdingAt, isLaid};
+ghost use Rattle.frame.specs.Shape.{holdingShape};
+ghost use Rattle.holding.specs.Group.{holdingOf, nothing};
+ghost use Rattle.session.specs.Session.{isOpen};
+ghost use Rattle.session.specs.Standing.{whole, Stands, Fits, framesOf, offeredIn, decidedAs};
+ghost use Rattle.lending.specs.Laid.{sessionVoice, holdingVoice, flagOctet, isSet, numberOctets, holdingOctets, holdingAt, isLaid};
 ghost use Rattle.lending.specs.Laid.{holdingIn, holdingLaid, formOctets, formAt, lastOctets, sessionHead, sessionLaid};
-ghost use Rattle.lending.specs.Laid.{sessionAt, sessionIn};
+ghost use Rattle.lending.specs.Laid.{sessionAt, isSession, sessionIn};
+ghost use Rattle.lending.specs.Parts.{typeOctets, groupOctets, frontOctets, typesAt, bodiesAt, hasGroup};
 
 // The octets of a session, and of a holding.
 pub const OCTETS: usize = 2304;
+
+// The type of an erasure.
+const ERASURE: u8 = 0x0E;
 
 // A flag as an octet: 1 or 0.
 fn flag(set: bool) -> u8
@@ -67,30 +79,44 @@ fn put_flags(out: &mut [u8], at: usize, flags: &[bool])
     }
 }
 
-// Lays out the numbers of a holding.
-fn put_numbers(out: &mut [u8], at: usize, h: Holding)
+// Lays out the numbers of a group.
+fn put_numbers(out: &mut [u8], at: usize, source: u32, numbers: GroupNumbers)
     requires { ⌜ at + 16 ≤ length (now out) ⌝ }
-    ensures { λ _. ⌜ now (out .exit) ≡ over (now (out .entry)) at (numberOctets h) ⌝ }
+    ensures { λ _. ⌜ ((hs : List Bool) (ms rs : List ℕ) → now (out .exit)
+        ≡ over (now (out .entry)) at (numberOctets (holdingOf source numbers hs ms rs))) ⌝ }
 {
-    octets::put_four(out, at, h.source);
-    octets::put_two(out, at + 4, h.sequence);
-    octets::put_four(out, at + 6, h.timestamp);
-    put_pair(out, at + 10, h.l, h.b);
+    octets::put_four(out, at, source);
+    octets::put_two(out, at + 4, numbers.sequence);
+    octets::put_four(out, at + 6, numbers.timestamp);
+    put_pair(out, at + 10, numbers.l, numbers.b);
     octets::fill(out, at + 12, 4, 0);
 }
 
-// Lays out which packets are held, the types and the bodies.
-fn put_frames(out: &mut [u8], at: usize, h: Holding)
-    requires { ⌜ at + 1856 ≤ length (now out) ⌝ }
-    ensures { λ _. ⌜ now (out .exit) ≡ over (now (out .entry)) at (frameOctets h) ⌝ }
+// Lays out which packets are held, and the types.
+fn put_types(out: &mut [u8], at: usize, held: &[bool], marks: &[u8])
+    requires { ⌜ (at + 96 ≤ length (now out)) × (length (now held) ≡ 8) × (length (now marks) ≡ 80) ⌝ }
+    ensures { λ _. ⌜ now (out .exit) ≡ over (now (out .entry)) at (typeOctets (now (held .entry)) (now (marks .entry))) ⌝ }
 {
-    let held = h.held;
-    put_flags(out, at, &held);
+    put_flags(out, at, held);
     octets::fill(out, at + 8, 8, 0);
-    let marks = h.marks;
-    octets::copy_shifted(out, at + 16, &marks, 242);
-    let room = h.room;
-    octets::copy(out, at + 96, &room);
+    octets::copy_shifted(out, at + 16, marks, 242);
+}
+
+// Lays out all of a holding but its bodies.
+fn put_group(
+    out: &mut [u8],
+    at: usize,
+    source: u32,
+    numbers: GroupNumbers,
+    held: &[bool],
+    marks: &[u8],
+)
+    requires { ⌜ (at + 112 ≤ length (now out)) × (length (now held) ≡ 8) × (length (now marks) ≡ 80) ⌝ }
+    ensures { λ _. ⌜ ((rs : List ℕ) → now (out .exit)
+        ≡ over (now (out .entry)) at (groupOctets (holdingOf source numbers (now (held .entry)) (now (marks .entry)) rs))) ⌝ }
+{
+    put_numbers(out, at, source, numbers);
+    put_types(out, at + 16, held, marks);
 }
 
 // Lays a holding out from index at on.
@@ -98,8 +124,12 @@ fn put_holding(out: &mut [u8], at: usize, h: Holding)
     requires { ⌜ at + 1872 ≤ length (now out) ⌝ }
     ensures { λ _. ⌜ now (out .exit) ≡ over (now (out .entry)) at (holdingOctets h) ⌝ }
 {
-    put_numbers(out, at, h);
-    put_frames(out, at + 16, h);
+    let numbers = holding::numbers_of(h);
+    let held = h.held;
+    let marks = h.marks;
+    let room = h.room;
+    put_group(out, at, h.source, numbers, &held, &marks);
+    octets::copy(out, at + 112, &room);
 }
 
 // Eight flags.
@@ -157,12 +187,12 @@ fn holding_at(lent: &[u8], at: usize) -> Holding
 }
 
 // Lays a holding out in all 2,304 octets.
-fn lay_holding(out: &mut [u8], h: Holding)
-    requires { ⌜ 2304 ≤ length (now out) ⌝ }
-    ensures { λ _. ⌜ now (out .exit) ≡ over (now (out .entry)) 0 (holdingLaid h) ⌝ }
+fn lay_holding(to: &mut [u8], h: Holding)
+    requires { ⌜ 2304 ≤ length (now to) ⌝ }
+    ensures { λ _. ⌜ now (to .exit) ≡ over (now (to .entry)) 0 (holdingLaid h) ⌝ }
 {
-    put_holding(out, 0, h);
-    octets::fill(out, 1872, 432, 0);
+    put_holding(to, 0, h);
+    octets::fill(to, 1872, 432, 0);
 }
 
 // Whether the octets are as a holding is laid out.
@@ -191,13 +221,13 @@ fn holding_in(lent: &[u8]) -> Holding
 }
 
 // Gives a host a holding; 15 where its octets are too few.
-fn give_holding(out: &mut [u8], h: Holding) -> Answer
-    ensures { λ r. ⌜ (r ≡ roomIn (now (out .entry))) × (now (out .exit) ≡ layIf (roomIn (now (out .entry))) (now (out .entry)) (holdingLaid h)) ⌝ }
+fn give_holding(to: &mut [u8], h: Holding) -> Answer
+    ensures { λ r. ⌜ (r ≡ roomIn (now (to .entry))) × (now (to .exit) ≡ layIf (roomIn (now (to .entry))) (now (to .entry)) (holdingLaid h)) ⌝ }
 {
-    if out.len() < OCTETS {
+    if to.len() < OCTETS {
         return Answer::Refused(Refusal::NoRoom);
     }
-    lay_holding(out, h);
+    lay_holding(to, h);
     Answer::Done
 }
 
@@ -219,43 +249,64 @@ fn put_form(out: &mut [u8], at: usize, form: Form)
 }
 
 // Lays out the numbers of the last poured group, or zeros where none was.
-fn put_last(out: &mut [u8], session: Session)
+fn put_last(out: &mut [u8], standing: Standing)
     requires { ⌜ 20 ≤ length (now out) ⌝ }
-    ensures { λ _. ⌜ now (out .exit) ≡ over (now (out .entry)) 9 (lastOctets session) ⌝ }
+    ensures { λ _. ⌜ ((ms rs : List ℕ) → now (out .exit) ≡ over (now (out .entry)) 9 (lastOctets (whole standing ms rs))) ⌝ }
 {
-    if session.poured {
-        octets::put_two(out, 9, session.last_sequence);
-        put_pair(out, 11, session.last_l, session.last_b);
+    let last = standing.last;
+    if standing.poured {
+        octets::put_two(out, 9, last.sequence);
+        put_pair(out, 11, last.l, last.b);
         octets::fill(out, 13, 3, 0);
-        octets::put_four(out, 16, session.last_timestamp);
+        octets::put_four(out, 16, last.timestamp);
     } else {
         octets::fill(out, 9, 11, 0);
     }
 }
 
 // Lays out all of a session but its group.
-fn put_head(out: &mut [u8], session: Session)
+fn put_head(out: &mut [u8], standing: Standing)
     requires { ⌜ 32 ≤ length (now out) ⌝ }
-    ensures { λ _. ⌜ now (out .exit) ≡ over (now (out .entry)) 0 (sessionHead session) ⌝ }
+    ensures { λ _. ⌜ ((ms rs : List ℕ) → now (out .exit) ≡ over (now (out .entry)) 0 (sessionHead (whole standing ms rs))) ⌝ }
 {
-    put_flag(out, 0, session.open);
-    let form = session.form;
+    put_flag(out, 0, standing.open);
+    let form = standing.form;
     put_form(out, 1, form);
-    octets::put_four(out, 4, session.source);
-    put_flag(out, 8, session.poured);
-    put_last(out, session);
+    octets::put_four(out, 4, standing.source);
+    put_flag(out, 8, standing.poured);
+    put_last(out, standing);
     octets::fill(out, 20, 12, 0);
 }
 
-// Lays a session out in all 2,304 octets.
-fn lay_session(out: &mut [u8], session: Session)
-    requires { ⌜ 2304 ≤ length (now out) ⌝ }
-    ensures { λ _. ⌜ now (out .exit) ≡ over (now (out .entry)) 0 (sessionLaid session) ⌝ }
+// Lays out all of a session that lies before the bodies of its group.
+fn put_front(out: &mut [u8], standing: Standing, marks: &[u8])
+    requires { ⌜ (144 ≤ length (now out)) × (length (now marks) ≡ 80) ⌝ }
+    ensures { λ _. ⌜ ((rs : List ℕ) → now (out .exit) ≡ over (now (out .entry)) 0 (frontOctets (whole standing (now (marks .entry)) rs))) ⌝ }
 {
-    put_head(out, session);
-    let group = session.group;
-    put_holding(out, 32, group);
+    put_head(out, standing);
+    let numbers = standing.numbers;
+    let held = standing.held;
+    put_group(out, 32, standing.group_source, numbers, &held, marks);
+}
+
+// Lays a session out in all 2,304 octets, around the bodies of its group, which lie there.
+fn put_session(out: &mut [u8], standing: Standing, marks: &[u8])
+    requires { ⌜ (2304 ≤ length (now out)) × (length (now marks) ≡ 80) ⌝ }
+    ensures { λ _. ⌜ (now (out .exit) ≡ over (now (out .entry)) 0 (sessionLaid (whole standing (now (marks .entry)) (bodiesAt (now (out .entry))))))
+        × (length (sessionLaid (whole standing (now (marks .entry)) (bodiesAt (now (out .entry))))) ≡ 2304) ⌝ }
+{
+    put_front(out, standing, marks);
     octets::fill(out, 1904, 400, 0);
+}
+
+// Lays a session out that holds no group.
+fn put_vacant(out: &mut [u8], standing: Standing)
+    requires { ⌜ 2304 ≤ length (now out) ⌝ }
+    ensures { λ _. ⌜ now (out .exit) ≡ over (now (out .entry)) 0 (sessionLaid (whole standing (nothing holdingShape .marks) (nothing holdingShape .room))) ⌝ }
+{
+    octets::fill(out, 144, 1760, 0);
+    let marks = [ERASURE; 80];
+    put_session(out, standing, &marks);
 }
 
 // The form that is laid out from index at on.
@@ -271,60 +322,95 @@ fn form_at(lent: &[u8], at: usize) -> Form
     Form::HeaderFree
 }
 
-// The session that is laid out.
-fn session_at(lent: &[u8]) -> Session
+// All of the session that is laid out, but the types and the bodies of its group.
+fn standing_at(lent: &[u8]) -> Standing
     requires { ⌜ 2304 ≤ length (now lent) ⌝ }
-    ensures { λ r. ⌜ r ≡ sessionAt (now (lent .entry)) ⌝ }
+    ensures { λ r. ⌜ whole r (typesAt (now (lent .entry))) (bodiesAt (now (lent .entry))) ≡ sessionAt (now (lent .entry)) ⌝ }
 {
     let form = form_at(lent, 1);
-    let group = holding_at(lent, 32);
-    Session {
+    let held = flags_at(lent, 48);
+    let numbers = GroupNumbers {
+        sequence: octets::two(lent, 36),
+        timestamp: octets::four(lent, 38),
+        l: lent[42],
+        b: lent[43],
+    };
+    let last = GroupNumbers {
+        sequence: octets::two(lent, 9),
+        timestamp: octets::four(lent, 16),
+        l: lent[11],
+        b: lent[12],
+    };
+    Standing {
         open: lent[0] == 1,
         source: octets::four(lent, 4),
         form,
-        group,
+        group_source: octets::four(lent, 32),
+        numbers,
+        held,
         poured: lent[8] == 1,
-        last_sequence: octets::two(lent, 9),
-        last_timestamp: octets::four(lent, 16),
-        last_l: lent[11],
-        last_b: lent[12],
+        last,
     }
 }
 
-// Whether the octets are as a session is laid out.
-fn is_laid_session(lent: &[u8], session: Session) -> bool
-    requires { ⌜ 2304 ≤ length (now lent) ⌝ }
-    ensures { λ r. ⌜ r ≡ isLaid (now (lent .entry)) (sessionLaid session) ⌝ }
-{
-    let mut again = [0u8; 2304];
-    lay_session(&mut again, session);
-    octets::same(&again, &lent[0..OCTETS])
-}
-
-// The session in lent octets; one never opened where they are none.
-fn session_in(from: &[u8]) -> Session
-    ensures { λ r. ⌜ r ≡ sessionIn (now (from .entry)) ⌝ }
+// Whether the octets are as a session is laid out. Of the bodies it is so whatever they are.
+fn is_session(from: &[u8]) -> bool
+    ensures { λ r. ⌜ r ≡ isSession (now (from .entry)) ⌝ }
 {
     if from.len() < OCTETS {
-        return session::never_opened();
+        return false;
     }
-    let session = session_at(from);
-    if is_laid_session(from, session) {
-        session
-    } else {
-        session::never_opened()
+    let standing = standing_at(from);
+    let marks = marks_at(from, 64);
+    let mut again = [0u8; 144];
+    put_front(&mut again, standing, &marks);
+    let same = octets::same(&again, &from[0..144]);
+    if same {
+        return octets::zeros(&from[1904..OCTETS]);
     }
+    false
 }
 
-// Gives a host a session; 15 where its octets are too few.
-fn give_session(to: &mut [u8], session: Session) -> Answer
-    ensures { λ r. ⌜ (r ≡ roomIn (now (to .entry))) × (now (to .exit) ≡ layIf (roomIn (now (to .entry))) (now (to .entry)) (sessionLaid session)) ⌝ }
+// Whether the session in lent octets counts as open. One that is too short, or is none, does not.
+fn is_open(lent: &[u8]) -> bool
+    ensures { λ r. ⌜ r ≡ isOpen (sessionVoice (now (lent .entry))) (sessionIn (now (lent .entry))) ⌝ }
 {
-    if to.len() < OCTETS {
-        return Answer::Refused(Refusal::NoRoom);
+    let there = is_session(lent);
+    if !there {
+        return false;
     }
-    lay_session(to, session);
-    Answer::Done
+    let standing = standing_at(lent);
+    let marks = marks_at(lent, 64);
+    session::is_open_in(standing, &marks, &lent[144..1904])
+}
+
+// Whether the session in lent octets counts as open and holds a group.
+fn has_group(lent: &[u8]) -> bool
+    ensures { λ r. ⌜ r ≡ hasGroup (sessionVoice (now (lent .entry))) (sessionIn (now (lent .entry))) ⌝ }
+{
+    let ready = is_open(lent);
+    if ready {
+        return lent[43] != 0;
+    }
+    false
+}
+
+// What becomes of a packet where an open session lies: bodies are laid out there, and types beside it.
+fn take_packet(
+    session: &mut [u8],
+    standing: Standing,
+    decision: Decision,
+    payload: &[u8],
+    marks: &mut [u8],
+) -> Stood
+    requires { ⌜ (2304 ≤ length (now session))
+        × Stands standing (now marks) (bodiesAt (now session))
+        × Fits standing (framesOf (standing .form) (now payload)) decision ⌝ }
+    ensures { λ r. ⌜ (offeredIn r (now (marks .exit)) (bodiesAt (now (session .exit)))
+        ≡ decidedAs (whole standing (now (marks .entry)) (bodiesAt (now (session .entry)))) (framesOf (standing .form) (now (payload .entry))) decision)
+        × (now (session .exit) ≡ over (now (session .entry)) 144 (bodiesAt (now (session .exit)))) ⌝ }
+{
+    session::take(standing, decision, payload, marks, &mut session[144..1904])
 }
 
 // ---- the calls
@@ -340,13 +426,16 @@ pub fn open(session: &mut [u8], source: u32, form: Form) -> Answer
     match answer {
         Answer::Refused(reason) => Answer::Refused(reason),
         Answer::Done => {
-            let next = started.session;
-            give_session(session, next)
+            if session.len() < OCTETS {
+                return Answer::Refused(Refusal::NoRoom);
+            }
+            put_vacant(session, session::fresh(source, form));
+            Answer::Done
         }
     }
 }
 
-// Offers a packet.
+// Offers a packet: its frames are laid out where the session lies.
 pub fn offer(
     session: &mut [u8],
     source: u32,
@@ -357,14 +446,20 @@ pub fn offer(
     ensures { λ r. ⌜ (r ≡ offerAnswer (sessionVoice (now (session .entry))) (now (session .entry)) source sequence timestamp (now (payload .entry)))
         × (now (session .exit) ≡ offerOctets (sessionVoice (now (session .entry))) (now (session .entry)) source sequence timestamp (now (payload .entry))) ⌝ }
 {
-    let before = session_in(session);
-    let offered = session::offer(before, source, sequence, timestamp, payload);
-    let answer = offered.answer;
+    let ready = is_open(session);
+    if !ready {
+        return Taken::Refused(Refusal::NotApplicable);
+    }
+    let standing = standing_at(session);
+    let mut marks = marks_at(session, 64);
+    let decision = session::decide(standing, source, sequence, timestamp, payload);
+    let stood = take_packet(session, standing, decision, payload, &mut marks);
+    let answer = stood.answer;
     match answer {
         Taken::Refused(reason) => Taken::Refused(reason),
         Taken::Accepted(lost) => {
-            let next = offered.session;
-            lay_session(session, next);
+            let next = stood.standing;
+            put_session(session, next, &marks);
             Taken::Accepted(lost)
         }
     }
@@ -375,33 +470,39 @@ pub fn pour(session: &mut [u8], out: &mut [u8]) -> Written
     ensures { λ r. ⌜ Writes (pourOf (sessionVoice (now (session .entry))) (now (session .entry))) (now (out .entry)) r (now (out .exit))
         × (now (session .exit) ≡ pourOctets (now (session .entry)) r) ⌝ }
 {
-    let before = session_in(session);
-    let poured = session::pour(before, out);
-    let answer = poured.answer;
-    match answer {
+    let ready = has_group(session);
+    if !ready {
+        return Written::Refused(Refusal::NotApplicable);
+    }
+    let standing = standing_at(session);
+    let numbers = standing.numbers;
+    let marks = marks_at(session, 64);
+    let written = pouring::pour_held_in(numbers, &marks, &session[144..1904], out);
+    match written {
         Written::Refused(reason) => Written::Refused(reason),
         Written::Octets(count) => {
-            let next = poured.session;
-            lay_session(session, next);
+            let next = session::end_group(standing);
+            put_vacant(session, next);
             Written::Octets(count)
         }
     }
 }
 
-// Copies the held group out.
+// Copies the held group out: in a session it lies as in a holding.
 pub fn copy_out(session: &[u8], out: &mut [u8]) -> Answer
     ensures { λ r. ⌜ (r ≡ copyAnswer (sessionVoice (now (session .entry))) (now (session .entry)) (now (out .entry)))
         × (now (out .exit) ≡ copyOctets (sessionVoice (now (session .entry))) (now (session .entry)) (now (out .entry))) ⌝ }
 {
-    let copied = session::copy_out(session_in(session));
-    let answer = copied.answer;
-    match answer {
-        Answer::Refused(reason) => Answer::Refused(reason),
-        Answer::Done => {
-            let group = copied.holding;
-            give_holding(out, group)
-        }
+    let ready = has_group(session);
+    if !ready {
+        return Answer::Refused(Refusal::NotApplicable);
     }
+    if out.len() < OCTETS {
+        return Answer::Refused(Refusal::NoRoom);
+    }
+    octets::copy(out, 0, &session[32..1904]);
+    octets::fill(out, 1872, 432, 0);
+    Answer::Done
 }
 
 // Ends the held group as pouring does, and writes nothing.
@@ -409,17 +510,14 @@ pub fn drop_group(session: &mut [u8]) -> Answer
     ensures { λ r. ⌜ (r ≡ dropAnswer (sessionVoice (now (session .entry))) (now (session .entry)))
         × (now (session .exit) ≡ dropOctets (sessionVoice (now (session .entry))) (now (session .entry))) ⌝ }
 {
-    let before = session_in(session);
-    let dropped = session::drop_group(before);
-    let answer = dropped.answer;
-    match answer {
-        Answer::Refused(reason) => Answer::Refused(reason),
-        Answer::Done => {
-            let after = dropped.session;
-            lay_session(session, after);
-            Answer::Done
-        }
+    let ready = has_group(session);
+    if !ready {
+        return Answer::Refused(Refusal::NotApplicable);
     }
+    let standing = standing_at(session);
+    let after = session::end_group(standing);
+    put_vacant(session, after);
+    Answer::Done
 }
 
 // Ends a session: all its octets are zero.

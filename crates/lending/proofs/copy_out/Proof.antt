@@ -1,48 +1,60 @@
 -- `lending::copy_out` meets its contract.
+use mathlib.Core.Path.{sym, _∙_}
+use native.Mathlib.Omega.{arith}
+use borrow.Author.Tests.{not-true, not-false}
 use borrow.Author.Needs.{needs}
-use Rattle.lending.proofs.CallsLaws.{copy-refused, copy-done}
+use Rattle.lending.proofs.CallsLaws.{no-room, room-taken, group-held, copy-none, copy-done}
+use Rattle.lending.proofs.PartsLaws.{open-there, session-long, copied-laid}
 use Rattle.lending.proofs.copy_out.Statement.{statement}
 use Rattle.lending.proofs.copy_out.Tie as tie
 
-session-in-requires : tie.Need-session-in-requires
-session-in-requires c κs = search needs
-
-copy-out-requires : tie.Need-copy-out-requires
-copy-out-requires c κs = search needs
-
-enum-known-answer : tie.Need-enum-known-answer
-enum-known-answer c = search needs
-
-enum-told : tie.Need-enum-told
-enum-told c = search needs
-
-give-holding-requires : tie.Need-give-holding-requires
-give-holding-requires c κs = search needs
+has-group-requires : tie.Need-has-group-requires
+has-group-requires c κs = search needs
 
 returns : tie.Need-returns
-returns c =
-    let at-session-in = c .before .before .before .before in
-    copy-refused _ _ _ _ _ (at-session-in .session-in .ensures) (c .before .before .before .copy-out .ensures) _ (c .before .answer .given .1)
+returns c = copy-none _ _ _ (sym (c .before .has-group .ensures) ∙ not-true _ (c .if1 .taken))
+
+returns-2 : tie.Need-returns-2
+returns-2 c = copy-done _ _ _ (sym (c .before .before .has-group .ensures) ∙ not-false _ (c .before .if1 .left)) _ _ (no-room _ _ (c .if2 .taken))
+
+sub-copy : tie.Need-sub-copy
+sub-copy c = search needs
+
+part-copy-start : tie.Need-part-copy-start
+part-copy-start c = search needs
+
+part-copy-end : tie.Need-part-copy-end
+part-copy-end c = omega (arith, session-long _ (open-there _ (group-held _ _ (sym (c .before .before .before .has-group .ensures) ∙ not-false _ (c .before .before .if1 .left)) .0)))
+
+copy-requires : tie.Need-copy-requires
+copy-requires c κs = search needs
+
+fill-requires : tie.Need-fill-requires
+fill-requires c κs = search needs
 
 same-length : tie.Need-same-length
 same-length c = search needs
 
-returns-2 : tie.Need-returns-2
-returns-2 c =
-    let at-enum-told = c .before .before .before .before .before in
-    let at-copy-out = at-enum-told .before .before in
-    let at-session-in = at-copy-out .before in
-    copy-done _ _ _ _ _ (at-session-in .session-in .ensures) (at-copy-out .copy-out .ensures) _ _ (at-enum-told .enum-told .given .1) (c .before .before .give-holding .ensures)
+returns-3 : tie.Need-returns-3
+returns-3 c =
+    let at-copy = c .before .before .before .before .before .before in
+    let at-if2 = at-copy .before .before .before in
+    let at-if1 = at-if2 .before in
+    let at-has-group = at-if1 .before in
+    let held = sym (at-has-group .has-group .ensures) ∙ not-false _ (at-if1 .if1 .left) in
+    copy-done _ _ _ held _ _ (room-taken _ _ _ (at-if2 .if2 .left) (copied-laid _ _ _ _ (open-there _ (group-held _ _ held .0)) (at-copy .copy .ensures) (c .before .before .fill .ensures)))
 
 pub copy-out-spec : {M : Type 1} → statement M
 copy-out-spec =
     tie.close
     (tie.spec
-    session-in-requires
-    copy-out-requires
-    enum-known-answer
-    enum-told
-    give-holding-requires
+    has-group-requires
     returns
+    returns-2
+    sub-copy
+    part-copy-start
+    part-copy-end
+    copy-requires
+    fill-requires
     same-length
-    returns-2)
+    returns-3)

@@ -1,55 +1,56 @@
 -- `lending::drop_group` meets its contract.
+use mathlib.Core.Path.{refl, sym, _∙_}
+use borrow.Author.Tests.{not-true, not-false}
 use borrow.Author.Needs.{needs}
-use Rattle.lending.proofs.CallsLaws.{drop-refused, drop-done, dropped-long}
+use Rattle.lending.proofs.CallsLaws.{group-held, drop-none, drop-done}
+use Rattle.lending.proofs.PartsLaws.{open-there, session-long, found, ended-in}
 use Rattle.lending.proofs.drop_group.Statement.{statement}
 use Rattle.lending.proofs.drop_group.Tie as tie
 
-session-in-requires : tie.Need-session-in-requires
-session-in-requires c κs = search needs
-
-drop-group-requires : tie.Need-drop-group-requires
-drop-group-requires c κs = search needs
-
-enum-known-answer : tie.Need-enum-known-answer
-enum-known-answer c = search needs
-
-enum-told : tie.Need-enum-told
-enum-told c = search needs
-
-lay-session-requires : tie.Need-lay-session-requires
-lay-session-requires c κs =
-    let at-drop-group = c .before .before .before .before in
-    let at-session-in = at-drop-group .before in
-    dropped-long _ _ _ _ (at-session-in .session-in .ensures) (at-drop-group .drop-group .ensures) (c .before .before .enum-told .given .1)
+has-group-requires : tie.Need-has-group-requires
+has-group-requires c κs = search needs
 
 same-length : tie.Need-same-length
 same-length c = search needs
 
 returns : tie.Need-returns
-returns c =
-    let at-session-in = c .before .before .before .before in
-    drop-refused _ _ _ _ (at-session-in .session-in .ensures) (c .before .before .before .drop-group .ensures) _ (c .before .answer .given .1)
+returns c = drop-none _ _ (sym (c .before .has-group .ensures) ∙ not-true _ (c .if1 .taken))
+
+standing-at-requires : tie.Need-standing-at-requires
+standing-at-requires c κs = session-long _ (open-there _ (group-held _ _ (sym (c .before .before .has-group .ensures) ∙ not-false _ (c .before .if1 .left)) .0))
+
+end-group-requires : tie.Need-end-group-requires
+end-group-requires c κs = search needs
+
+put-vacant-requires : tie.Need-put-vacant-requires
+put-vacant-requires c κs =
+    let at-if1 = c .before .before .before .before in
+    let at-has-group = at-if1 .before in
+    session-long _ (open-there _ (group-held _ _ (sym (at-has-group .has-group .ensures) ∙ not-false _ (at-if1 .if1 .left)) .0))
 
 same-length-2 : tie.Need-same-length-2
 same-length-2 c = search needs
 
 returns-2 : tie.Need-returns-2
 returns-2 c =
-    let at-enum-told = c .before .before .before .before .before in
-    let at-drop-group = at-enum-told .before .before in
-    let at-session-in = at-drop-group .before in
-    drop-done _ _ _ _ (at-session-in .session-in .ensures) (at-drop-group .drop-group .ensures) _ (at-enum-told .enum-told .given .1) (c .before .before .lay-session .ensures)
+    let at-end-group = c .before .before .before .before in
+    let at-standing-at = at-end-group .before in
+    let at-if1 = at-standing-at .before .before in
+    let at-has-group = at-if1 .before in
+    let held = sym (at-has-group .has-group .ensures) ∙ not-false _ (at-if1 .if1 .left) in
+    let opened = group-held _ _ held .0 in
+    let there = found _ _ _ opened (at-standing-at .standing-at .ensures) refl in
+    drop-done _ _ held _ (ended-in _ _ _ opened there _ _ (at-end-group .end-group .ensures) (c .before .before .put-vacant .ensures))
 
 pub drop-group-spec : {M : Type 1} → statement M
 drop-group-spec =
     tie.close
     (tie.spec
-    session-in-requires
-    drop-group-requires
-    enum-known-answer
-    enum-told
-    lay-session-requires
+    has-group-requires
     same-length
     returns
+    standing-at-requires
+    end-group-requires
+    put-vacant-requires
     same-length-2
     returns-2)

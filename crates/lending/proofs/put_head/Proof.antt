@@ -26,14 +26,14 @@ same-length : tie.Need-same-length
 same-length c = search needs
 
 returns : tie.Need-returns
-returns c =
+returns c ms rs =
     let at-put-last = c .before .before .before .before .before .before in
     let at-put-flag2 = at-put-last .before .before .before .before in
     let at-put-four = at-put-flag2 .before .before .before .before in
     let at-put-form = at-put-four .before .before .before .before in
     let at-put-flag = at-put-form .before .before .before .before in
-    head-laid _ _ _ _ _ _ _ _ (at-put-flag .put-flag .ensures) (at-put-form .put-form .ensures) (at-put-four .put-four .ensures)
-    (at-put-flag2 .put-flag2 .ensures) (at-put-last .put-last .ensures) (c .before .before .fill .ensures)
+    head-laid _ _ _ _ _ _ _ _ (at-put-flag .put-flag .ensures) (at-put-form .put-form .ensures) (at-put-four .put-four .ensures) (at-put-flag2 .put-flag2 .ensures)
+    (at-put-last .put-last .ensures ms rs) (c .before .before .fill .ensures)
 
 pub put-head-spec : {M : Type 1} → statement M
 put-head-spec =

@@ -24,22 +24,22 @@ same-length : tie.Need-same-length
 same-length c = search needs
 
 returns : tie.Need-returns
-returns c =
+returns c ms rs =
     let at-fill = c .before .before .before .before .before .before in
     let at-put-pair = at-fill .before .before .before .before in
     let at-put-two = at-put-pair .before .before .before .before in
     let at-if1 = at-put-two .before .before in
-    let start = at-if1 .before .before in
-    last-laid _ _ (omega (arith, start .pre)) _ _ _ _ (at-if1 .if1 .taken)
-    (at-put-two .put-two .ensures) (at-put-pair .put-pair .ensures) (at-fill .fill .ensures) (c .before .before .put-four .ensures)
+    let start = at-if1 .before .before .before in
+    last-laid _ _ (omega (arith, start .pre)) _ _ _ _ (at-if1 .if1 .taken) (at-put-two .put-two .ensures) (at-put-pair .put-pair .ensures) (at-fill .fill .ensures)
+    (c .before .before .put-four .ensures)
 
 same-length-2 : tie.Need-same-length-2
 same-length-2 c = search needs
 
 returns-2 : tie.Need-returns-2
-returns-2 c =
+returns-2 c ms rs =
     let at-if1 = c .before .before .before .before in
-    let start = at-if1 .before .before in
+    let start = at-if1 .before .before .before in
     none-laid _ _ (omega (arith, start .pre)) _ (at-if1 .if1 .left) (c .before .before .fill2 .ensures)
 
 pub put-last-spec : {M : Type 1} → statement M

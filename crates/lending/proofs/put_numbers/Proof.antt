@@ -36,14 +36,14 @@ same-length : tie.Need-same-length
 same-length c = search needs
 
 returns : tie.Need-returns
-returns c =
+returns c hs ms rs =
     let at-put-pair = c .before .before .before .before .before .before in
     let at-put-four2 = at-put-pair .before .before .before .before in
     let at-put-two = at-put-four2 .before .before .before .before in
     let at-put-four = at-put-two .before .before .before .before in
     let start = at-put-four .before .before .before in
-    numbers-laid _ _ _ (omega (arith, start .pre)) _ _ _ _ _
-    (at-put-four .put-four .ensures) (at-put-two .put-two .ensures) (at-put-four2 .put-four2 .ensures) (at-put-pair .put-pair .ensures) (c .before .before .fill .ensures)
+    numbers-laid _ _ _ (omega (arith, start .pre)) _ _ _ _ _ (at-put-four .put-four .ensures) (at-put-two .put-two .ensures) (at-put-four2 .put-four2 .ensures)
+    (at-put-pair .put-pair .ensures) (c .before .before .fill .ensures)
 
 pub put-numbers-spec : {M : Type 1} → statement M
 put-numbers-spec =

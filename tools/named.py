@@ -2,7 +2,7 @@
 each use. A place is named if its path has four or more `.before`, or two or more and is used twice."""
 import re
 
-HEAD = re.compile(r"([\w·μ-]+(?: c)(?: κs)*) =(?: +|$)")
+HEAD = re.compile(r"([\w·μ-]+ c(?: [^\s=]+)*) =(?: +|$)")
 NAMING = re.compile(r"let ((?:start|at-)[^ :]*) = (\S+)((?: \.before)+) in")
 ENTRY = ("args", "blocks", "good", "fits", "pre")  # what is known where a function begins
 PATH = re.compile(r"(?<![\w.·-])c((?: \.before)+)(?: \.«?([\w·μ-]+)»?)?")

@@ -166,4 +166,8 @@ determined = record {
   sessionTake = record { equal = by taken-seen };
   sessionEndGroup = record { equal = λ p q. by (λ (s : Session). alone (standing-in s)) (p [] []) (q [] []) };
   sessionFresh = record { equal = by (λ (s : Session). alone (standing-in s)) };
+  holdingIsNothingIn = record { equal = by alone };
+  holdingHoldsPacketIn = record { equal = λ p q. by alone (p 0) (q 0) };
+  pouringPourHeldIn = record { equal = writes };
+  sessionIsOpenIn = record { equal = by alone };
 }

@@ -4,10 +4,8 @@ use mathlib.Core.Bool.{Bool, true, false, cond, _&&_}
 use mathlib.Core.Path.{_≡_, refl, sym, ap, _∙_}
 use mathlib.Core.List.{List, _++_}
 use native.Mathlib.Omega.{arith}
-use lib.Dec.{leb}
-use lib.ListN.{length, take, drop, length-take, length-drop, length-map, take-append-drop}
-use borrow.Author.Tests.{leb-true}
-use Rattle.octets.specs.Octets.{over, shifted, sameOctets, anySet, twoAt, fourAt, twoOctets, fourOctets}
+use lib.ListN.{length, take, drop, length-take, take-append-drop}
+use Rattle.octets.specs.Octets.{over, sameOctets, anySet, twoAt, fourAt, twoOctets, fourOctets}
 use Rattle.frame.specs.Shape.{Voice, holdingShape}
 use Rattle.octets.proofs.Logic.{apart}
 use Rattle.octets.proofs.OctetsLaws.{same-true}
@@ -21,10 +19,11 @@ use Rattle.session.specs.declared.Session.{Session}
 use Rattle.session.specs.declared.Offered.{Offered}
 use Rattle.session.specs.declared.Taken.{Taken}
 use Rattle.session.specs.declared.Taken.the-variants as taken
-use Rattle.lending.specs.Laid.{isSet, isLong, isLaid, numberOctets, frameOctets, holdingOctets, holdingAt, isHolding, holdingIn, holdingLaid}
+use Rattle.lending.specs.Laid.{isLong, isLaid, numberOctets, frameOctets, holdingOctets, holdingAt, isHolding, holdingIn, holdingLaid}
 use Rattle.lending.specs.Laid.{formOctets, formAt, lastOctets, sessionHead, sessionLaid, sessionAt, isSession, sessionIn}
 use Rattle.lending.specs.Calls.{layTaken, offerAnswer, offerOctets}
-use Rattle.lending.proofs.LaidLaws.{too-short}
+use Rattle.lending.proofs.LaidLaws.{too-short, laid-long, at-shaped}
+use Rattle.lending.proofs.PartsLaws.{open-laid}
 use Rattle.claims.specs.Lent.{LentIsShaped, ZeroIsNeverOpened, ShortIsNone, NoSessionTakesNothing, NoHoldingHoldsNothing, SessionLaysBack}
 use Rattle.claims.specs.Lent.{HoldingLaysBack, EqualIsEqualOctets, RepeatChangesNoOctet, EqualKnowledgeEqualOctets}
 use Rattle.claims.specs.Joinings.{EqualKnowledge}
@@ -58,51 +57,24 @@ are-laid o w e = go (isLong o) e
     go true q = same-true w (take 2304 o) q
     go false q = apart (cc)
 
-are-long : (o w : List ℕ) → isLaid o w ≡ true → 2304 ≤ length o
-unfolding isLaid isLong
-are-long o w e = go (leb 2304 (length o)) refl e
-  where
-    go : (b : Bool) → leb 2304 (length o) ≡ b → (b && sameOctets w (take 2304 o)) ≡ true → 2304 ≤ length o
-    go true l q = leb-true _ _ l
-    go false l q = apart (cc)
-
 -- ---- what is read is as long as its type makes it
 pub nothing-shaped : Shaped holdingShape (nothing holdingShape)
 unfolding nothing begun
 nothing-shaped = record { long-held = refl; long-marks = refl; long-room = refl }
-
-window : (o : List ℕ) (at n : ℕ) → at + n ≤ length o → length (take n (drop at o)) ≡ n
-window o at n h = simp (length-take, length-drop) (omega arith)
-
-at-shaped : (o : List ℕ) (at : ℕ) → at + 1872 ≤ length o → Shaped holdingShape (holdingAt o at)
-unfolding holdingAt
-at-shaped o at h = record {
-  long-held = length-map (take 8 (drop (at + 16) o)) isSet ∙ window o (at + 16) 8 (omega arith);
-  long-marks = length-map (take 80 (drop (at + 32) o)) (shifted 14) ∙ window o (at + 32) 80 (omega arith);
-  long-room = window o (at + 112) 1760 (omega arith);
-}
 
 pub lent-is-shaped : LentIsShaped
 unfolding holdingIn isHolding sessionIn isSession sessionAt neverOpened vacant
 lent-is-shaped = record { holdings = λ o. holding o (isLaid o (holdingLaid (holdingAt o 0))) refl; sessions = λ o. session o (isLaid o (sessionLaid (sessionAt o))) refl }
   where
     holding : (o : List ℕ) (b : Bool) → isLaid o (holdingLaid (holdingAt o 0)) ≡ b → Shaped holdingShape (cond b (holdingAt o 0) (nothing holdingShape))
-    holding o true e = let l = are-long o (holdingLaid (holdingAt o 0)) e in at-shaped o 0 (omega arith)
+    holding o true e = let l = laid-long o (holdingLaid (holdingAt o 0)) e in at-shaped o 0 (omega arith)
     holding o false e = nothing-shaped
 
     session : (o : List ℕ) (b : Bool) → isLaid o (sessionLaid (sessionAt o)) ≡ b → Shaped holdingShape (cond b (sessionAt o) (neverOpened holdingShape) .group)
-    session o true e = let l = are-long o (sessionLaid (sessionAt o)) e in at-shaped o 32 (omega arith)
+    session o true e = let l = laid-long o (sessionLaid (sessionAt o)) e in at-shaped o 32 (omega arith)
     session o false e = nothing-shaped
 
--- an open session was read from such octets, and so was a holding that holds a packet
-pub open-laid : (o : List ℕ) → sessionIn o .«open» ≡ true → isSession o ≡ true
-unfolding sessionIn neverOpened vacant
-open-laid o e = go (isSession o) e
-  where
-    go : (b : Bool) → cond b (sessionAt o) (neverOpened holdingShape) .«open» ≡ true → b ≡ true
-    go true q = refl
-    go false q = apart (cc)
-
+-- a holding that holds a packet was read from such octets
 held-laid : (o : List ℕ) → anySet (holdingIn o .held) ≡ true → isHolding o ≡ true
 unfolding holdingIn nothing begun anySet
 held-laid o e = go (isHolding o) e
@@ -156,7 +128,7 @@ kept-octets v o source q t p e = go (offered v (sessionIn o) source q t p .answe
     go (taken.Refused r) f = refl
     go (taken.Accepted lost) f =
         let a : sessionIn o .«open» ≡ true = accepted-open v (sessionIn o) source q t p lost f in
-        ap (λ (s : Session). over o 0 (sessionLaid s)) e ∙ ap (over o 0) (session-lays-back o a) ∙ over-same o (are-long o (sessionLaid (sessionAt o)) (open-laid o a))
+        ap (λ (s : Session). over o 0 (sessionLaid s)) e ∙ ap (over o 0) (session-lays-back o a) ∙ over-same o (laid-long o (sessionLaid (sessionAt o)) (open-laid o a))
 
 pub repeat-changes-no-octet : RepeatChangesNoOctet
 unfolding RepeatChangesNothing accept

@@ -25,9 +25,10 @@ use Rattle.session.specs.declared.Started.{Started}
 use Rattle.session.proofs.Ends.{only-group}
 use Rattle.lending.specs.Laid.{flagOctet, isSet, isLaid, numberOctets, frameOctets, holdingOctets, holdingAt, holdingLaid}
 use Rattle.lending.specs.Laid.{formOctets, formAt, lastOctets, sessionHead, sessionLaid, sessionAt, isSession, sessionIn}
-use Rattle.lending.proofs.LaidLaws.{long-enough, form-free, form-interleaved, holding-there, session-there, session-read}
-use Rattle.lending.proofs.Pieces.{A, B, C, D, F, N, M, O, G, S, P, Q, K, E, Z, T, length-ab, length-abc, length-abcd, length-numbers, length-f}
-use Rattle.lending.proofs.Pieces.{length-m, length-fn, length-fnm, length-holding, length-holding-laid, length-form, length-og, length-ogs}
+use Rattle.lending.proofs.LaidLaws.{long-enough, form-free, form-interleaved, holding-there}
+use Rattle.lending.proofs.PartsLaws.{session-there, session-read}
+use Rattle.lending.proofs.Pieces.{A, B, C, D, F, M, O, G, S, P, Q, K, E, Z, T, length-ab, length-abc, length-abcd, length-numbers, length-f}
+use Rattle.lending.proofs.Pieces.{length-m, length-fn, length-types, length-holding, length-holding-laid, length-form, length-og, length-ogs}
 use Rattle.lending.proofs.Pieces.{length-ogsp, length-kez, length-ogspq, length-last, length-head, length-grouped, length-session-laid}
 use Rattle.claims.specs.Packets.{AreOctets}
 use Rattle.claims.specs.Lent.{HoldingReadsBack, NoneRemembered, NothingPouredNothingRemembered, SessionReadsBack}
@@ -76,21 +77,35 @@ module _ (h : Holding) (x : Shaped holdingShape h) (z : AreOctets (h .marks)) wh
   sizes-piece : take 2 (drop 10 (holdingOctets h)) ≡ D h
   sizes-piece = low 10 2 (omega arith) ∙ in-second (A h ++ B h ++ C h) (D h) 10 0 2 (length-abc h)
 
-  flags-piece : take 8 (drop 16 (holdingOctets h)) ≡ F h
+  -- which packets are held, eight octets that stand for nothing, and the types
+  abbrev flags : List ℕ
+  flags = F (h .held) (h .marks)
+
+  abbrev types : List ℕ
+  types = M (h .held) (h .marks)
+
+  length-both : length (flags ++ replicate 8 0) ≡ 16
+  length-both = length-fn (h .held) (h .marks) (x .long-held)
+
+  length-all : length (flags ++ replicate 8 0 ++ types) ≡ 96
+  length-all = length-types (h .held) (h .marks) (x .long-held) (x .long-marks)
+
+  flags-piece : take 8 (drop 16 (holdingOctets h)) ≡ flags
   unfolding frameOctets
   flags-piece =
-      high 0 8 ∙ in-first (F h ++ N h ++ M h) (h .room) 0 8 (omega (arith, length-fnm h x)) ∙ in-first (F h ++ N h) (M h) 0 8 (omega (arith, length-fn h x))
-      ∙ in-first (F h) (N h) 0 8 (omega (arith, length-f h x)) ∙ take-all 8 (F h) (omega (arith, length-f h x))
+      let l = length-f (h .held) (h .marks) (x .long-held) in
+      high 0 8 ∙ in-first (flags ++ replicate 8 0 ++ types) (h .room) 0 8 (omega (arith, length-all)) ∙ in-first (flags ++ replicate 8 0) types 0 8 (omega (arith, length-both))
+      ∙ in-first flags (replicate 8 0) 0 8 (omega arith) ∙ take-all 8 flags (omega arith)
 
-  types-piece : take 80 (drop 32 (holdingOctets h)) ≡ M h
+  types-piece : take 80 (drop 32 (holdingOctets h)) ≡ types
   unfolding frameOctets
   types-piece =
-      high 16 80 ∙ in-first (F h ++ N h ++ M h) (h .room) 16 80 (omega (arith, length-fnm h x)) ∙ in-second (F h ++ N h) (M h) 16 0 80 (length-fn h x)
-      ∙ take-all 80 (M h) (omega (arith, length-m h x))
+      high 16 80 ∙ in-first (flags ++ replicate 8 0 ++ types) (h .room) 16 80 (omega (arith, length-all)) ∙ in-second (flags ++ replicate 8 0) types 16 0 80 length-both
+      ∙ take-all 80 types (omega (arith, length-m (h .held) (h .marks) (x .long-marks)))
 
   room-piece : take 1760 (drop 112 (holdingOctets h)) ≡ h .room
   unfolding frameOctets
-  room-piece = high 96 1760 ∙ in-second (F h ++ N h ++ M h) (h .room) 96 0 1760 (length-fnm h x) ∙ take-all 1760 (h .room) (omega (arith, x .long-room))
+  room-piece = high 96 1760 ∙ in-second (flags ++ replicate 8 0 ++ types) (h .room) 96 0 1760 length-all ∙ take-all 1760 (h .room) (omega (arith, x .long-room))
 
   -- octets in which the holding is laid out from index `at` on
   module _ (o : List ℕ) (at : ℕ) (there : (k n : ℕ) → k + n ≤ 1872 → take n (drop (at + k) o) ≡ take n (drop k (holdingOctets h))) where

@@ -199,6 +199,7 @@ rattle-demand-1 = record {
   packetWriteHeaderFree = record { so = λ p i. (ap out-lent (writes-kept _ _ p i), tt) };
   pouringPour = record { so = λ p i. (ap out-lent (writes-kept _ _ p i), tt) };
   pouringPourHeld = record { so = λ p i. (ap out-lent (writes-kept _ _ p i), tt) };
+  pouringPourHeldIn = record { so = λ p i. (ap out-lent (writes-kept _ _ p i), tt) };
   captureRecord = record { so = λ p i. (ap out-lent (record-kept (good _) (octets (captureRecording captureKind _)) (p .0) (p .1) i), tt) };
   joiningJoin = record { so = λ p i. (refl, ap (λ (j : Joined). j .holding) p ∙ join-kept _ _ _ (subst (λ (j : Joined). RefusedAnswer (j .answer)) p i)) };
   sessionOpen = record { so = λ p i. (refl, ap (λ (j : Started). j .session) p ∙ open-kept _ _ _ _ (subst (λ (j : Started). RefusedAnswer (j .answer)) p i)) };

@@ -143,3 +143,7 @@ pub record Determined : Type 0 where
   pub sessionTake : Fixed session.take
   pub sessionEndGroup : Fixed session.endGroup
   pub sessionFresh : Fixed session.fresh
+  pub holdingIsNothingIn : Fixed holding.isNothingIn
+  pub holdingHoldsPacketIn : Fixed holding.holdsPacketIn
+  pub pouringPourHeldIn : Fixed pouring.pourHeldIn
+  pub sessionIsOpenIn : Fixed session.isOpenIn

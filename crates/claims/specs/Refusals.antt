@@ -78,6 +78,7 @@ pub record RattleDemand1 : Type 0 where
   pub packetWriteHeaderFree : KeptLent packet.writeHeaderFree RefusedWriting
   pub pouringPour : KeptLent pouring.pour RefusedWriting
   pub pouringPourHeld : KeptLent pouring.pourHeld RefusedWriting
+  pub pouringPourHeldIn : KeptLent pouring.pourHeldIn RefusedWriting
   pub captureRecord : KeptLent capture.record RefusedCapture
   pub joiningJoin : Kept joining.join (λ x. RefusedAnswer (x .answer)) (λ g x. x .holding ≡ nothing holdingShape)
   pub sessionOpen : Kept session.«open» (λ x. RefusedAnswer (x .answer)) (λ g x. x .session ≡ g .0)

@@ -1,6 +1,8 @@
 -- Made by tools/calls --write from the sources: the public calls of crates/holding.
 use Prim.Native.Nat.{ℕ}
 use mathlib.Core.Bool.{Bool}
+use mathlib.Core.List.{List}
+use denote.Ref.{now}
 use Rattle.bundle.specs.declared.Bundle.{Bundle}
 use Rattle.holding.specs.declared.Described.{Described}
 use Rattle.holding.specs.declared.Holding.{Holding}
@@ -52,6 +54,22 @@ nothing = record {
   answer = λ κs x. x;
   Given = Unit {0};
   given = λ κs a. tt;
+  Lent = Unit {0};
+  lent = λ κs a. tt;
+  left = λ κs s. tt;
+}
+
+-- is_nothing_in(source: u32, numbers: GroupNumbers, held: &[bool], marks: &[u8], room: &[u8]) -> bool
+abbrev pub isNothingIn : Call
+isNothingIn = record {
+  lifetimes = 3;
+  parameters = contracts.is_nothing_in.Kinds.ps;
+  result = contracts.is_nothing_in.Kinds.r;
+  allows = contracts.is_nothing_in.Reads.Post;
+  Answer = Bool;
+  answer = λ κs x. x;
+  Given = ℕ × (GroupNumbers × (List Bool × (List ℕ × List ℕ)));
+  given = λ κs a. (a .0, (a .1 .0, (now (a .1 .1 .0), (now (a .1 .1 .1 .0), now (a .1 .1 .1 .1 .0)))));
   Lent = Unit {0};
   lent = λ κs a. tt;
   left = λ κs s. tt;
@@ -116,6 +134,22 @@ samePacket = record {
   answer = λ κs x. x;
   Given = Holding × (ℕ × Bundle);
   given = λ κs a. (a .0, (a .1 .0, a .1 .1 .0));
+  Lent = Unit {0};
+  lent = λ κs a. tt;
+  left = λ κs s. tt;
+}
+
+-- holds_packet_in(numbers: GroupNumbers, held: &[bool], marks: &[u8], room: &[u8]) -> bool
+abbrev pub holdsPacketIn : Call
+holdsPacketIn = record {
+  lifetimes = 3;
+  parameters = contracts.holds_packet_in.Kinds.ps;
+  result = contracts.holds_packet_in.Kinds.r;
+  allows = contracts.holds_packet_in.Reads.Post;
+  Answer = Bool;
+  answer = λ κs x. x;
+  Given = GroupNumbers × (List Bool × (List ℕ × List ℕ));
+  given = λ κs a. (a .0, (now (a .1 .0), (now (a .1 .1 .0), now (a .1 .1 .1 .0))));
   Lent = Unit {0};
   lent = λ κs a. tt;
   left = λ κs s. tt;

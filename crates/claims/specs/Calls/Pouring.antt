@@ -5,6 +5,7 @@ use denote.Ref.{now}
 use Rattle.answers.specs.declared.Written.{Written}
 use Rattle.frame.specs.declared.Vocoder.{Vocoder}
 use Rattle.holding.specs.declared.Holding.{Holding}
+use Rattle.numbers.specs.declared.GroupNumbers.{GroupNumbers}
 use Rattle.pouring.proofs as contracts
 use Rattle.claims.specs.Call.{Call}
 use Rattle.claims.specs.Calls.Lent.{LentOut}
@@ -39,6 +40,22 @@ pourRows = record {
   Lent = LentOut;
   lent = λ κs a. record { out = now (a .1 .1 .1 .1 .1 .0) };
   left = λ κs s. record { out = now (s .1 .1 .1 .1 .1 .0) };
+}
+
+-- pour_held_in(numbers: GroupNumbers, marks: &[u8], room: &[u8], out: &mut [u8]) -> Written
+abbrev pub pourHeldIn : Call
+pourHeldIn = record {
+  lifetimes = 3;
+  parameters = contracts.pour_held_in.Kinds.ps;
+  result = contracts.pour_held_in.Kinds.r;
+  allows = contracts.pour_held_in.Reads.Post;
+  Answer = Written;
+  answer = λ κs x. x;
+  Given = GroupNumbers × (List ℕ × List ℕ);
+  given = λ κs a. (a .0, (now (a .1 .0), now (a .1 .1 .0)));
+  Lent = LentOut;
+  lent = λ κs a. record { out = now (a .1 .1 .1 .0) };
+  left = λ κs s. record { out = now (s .1 .1 .1 .0) };
 }
 
 -- pour_held(h: Holding, out: &mut [u8]) -> Written

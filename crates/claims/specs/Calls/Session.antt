@@ -66,6 +66,22 @@ openAgreed = record {
   left = λ κs s. tt;
 }
 
+-- is_open_in(standing: Standing, marks: &[u8], room: &[u8]) -> bool
+abbrev pub isOpenIn : Call
+isOpenIn = record {
+  lifetimes = 2;
+  parameters = contracts.is_open_in.Kinds.ps;
+  result = contracts.is_open_in.Kinds.r;
+  allows = contracts.is_open_in.Reads.Post;
+  Answer = Bool;
+  answer = λ κs x. x;
+  Given = Standing × (List ℕ × List ℕ);
+  given = λ κs a. (a .0, (now (a .1 .0), now (a .1 .1 .0)));
+  Lent = Unit {0};
+  lent = λ κs a. tt;
+  left = λ κs s. tt;
+}
+
 -- is_open(session: Session) -> bool
 abbrev pub isOpen : Call
 isOpen = record {

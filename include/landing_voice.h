@@ -29,8 +29,8 @@
 #include <stdint.h>
 
 /* The version in words; and as a number to be compared, 10000 x major + 100 x minor + patch. */
-#define LV_VERSION "4.0.1"
-#define LV_VERSION_NUMBER 40001
+#define LV_VERSION "4.0.2"
+#define LV_VERSION_NUMBER 40002
 
 #ifdef __cplusplus
 extern "C" {

@@ -35,8 +35,8 @@ use Rattle.session.specs.declared.Offered.{Offered}
 use Rattle.session.specs.declared.Taken.{Taken}
 use Rattle.session.specs.declared.Taken.the-variants.{Accepted, Refused}
 use Rattle.session.proofs.Ends.{refused-keeps, fresh-open}
-use Rattle.session.proofs.SessionLaws.{group-holds, pour-vacant, pour-group, offer-open}
-use Rattle.session.proofs.StandingLaws.{Decides, decides-as}
+use Rattle.session.proofs.SessionLaws.{group-holds, pour-vacant, pour-group}
+use Rattle.session.proofs.StandingLaws.{offered-of, Decides, decides-as}
 use Rattle.capture.specs.Capture.{Heard, countOf, startAt, heardAt, lengthAt, packetsIn}
 use Rattle.capture.specs.Run.{captureForm, captureVocoder, captureKind, firstSession, still, offeredTo, takenOf, lostIn, offering, pouredOf, pouring, isTwelve, readied, stepOf, Put, Does}
 use Rattle.capture.specs.declared.Run.{Run}
@@ -152,7 +152,7 @@ module _ (t : Standing) (ms rs : List ℕ) (h : Stands t ms rs) (k : Heard) (d :
   -- what it means for the session put together
   pub decided-is : decidedAs (whole t ms rs) (framesOf (t .form) (k .payload)) d ≡ offeredTo (captureKind .table) (whole t ms rs) k
   unfolding offeredTo
-  decided-is = worth .means ms rs h ∙ offer-open (voiceFor (t .form)) (whole t ms rs) (k .source) (k .sequence) (k .timestamp) (k .payload) (h .opened)
+  decided-is = offered-of (whole t ms rs) t ms rs refl (h .opened) (h .spans) (k .source) (k .sequence) (k .timestamp) (k .payload) d x _ refl
 
   pub fits-as : (p : List ℕ) → p ≡ k .payload → Fits t (framesOf (t .form) p) d
   fits-as p e = subst (λ (q : List ℕ). Fits t (framesOf (t .form) q) d) (sym e) (worth .fits ms rs h)

@@ -168,6 +168,7 @@ determined = record {
   sessionFresh = record { equal = by (λ (s : Session). alone (standing-in s)) };
   holdingIsNothingIn = record { equal = by alone };
   holdingHoldsPacketIn = record { equal = λ p q. by alone (p 0) (q 0) };
+  holdingSamePacketIn = record { equal = by alone };
   pouringPourHeldIn = record { equal = writes };
   sessionIsOpenIn = record { equal = by alone };
 }

@@ -22,7 +22,7 @@ use Rattle.holding.proofs.GroupLaws.{nothing-is}
 use Rattle.pouring.specs.Pouring.{inTime, poured}
 use Rattle.session.specs.Session.{vacant, neverOpened, fresh, openedFor, isOpen, refuse, accept}
 use Rattle.session.specs.Session.{groupBefore, begins, belongs, placedBy, placed, arrival, judged, received, offered}
-use Rattle.session.proofs.Ends.{Ends, refuses, places, Seen, kept, took, seen, offer-ends, fresh-open}
+use Rattle.session.proofs.Ends.{Ends, refuses, places, Seen, kept, took, seen, offer-ends, fresh-open, refused-keeps}
 use Rattle.session.specs.declared.Arrival.{Arrival}
 use Rattle.session.specs.declared.Offered.{Offered}
 use Rattle.session.specs.declared.Taken.the-variants.{Accepted, Refused}
@@ -33,16 +33,8 @@ use Rattle.claims.specs.Sessions.{LostFramesByFormula, bodyOctets, Octet
 
 -- ---- how an offer ends
 pub refused-offer-changes-nothing : RefusedOfferChangesNothing
-unfolding RefusedOfferChangesNothing refuse accept
-refused-offer-changes-nothing v s source q t p r e = go (offered v s source q t p) (offer-ends v s source q t p) e
-  where
-    same : (m : ℕ) (o : Offered) → Seen s m o → o .answer ≡ Refused r → o .session ≡ s
-    same m o (kept x f) h = ap (λ (y : Offered). y .session) f
-    same m o (took u f) h = let z : Accepted m ≡ Refused r = sym (ap (λ (y : Offered). y .answer) f) ∙ h in apart (cc)
-
-    go : (o : Offered) → Ends v s source q t p o → o .answer ≡ Refused r → o .session ≡ s
-    go o (refuses x k f) h = ap (λ (y : Offered). y .session) f
-    go o (places a b l n d fs c x) h = same _ o (seen (v .shape) s (arrival (v .shape) q t l n fs) o x) h
+unfolding RefusedOfferChangesNothing
+refused-offer-changes-nothing = refused-keeps
 
 pub lost-frames-by-formula : LostFramesByFormula
 unfolding LostFramesByFormula refuse accept

@@ -145,5 +145,6 @@ pub record Determined : Type 0 where
   pub sessionFresh : Fixed session.fresh
   pub holdingIsNothingIn : Fixed holding.isNothingIn
   pub holdingHoldsPacketIn : Fixed holding.holdsPacketIn
+  pub holdingSamePacketIn : Fixed holding.samePacketIn
   pub pouringPourHeldIn : Fixed pouring.pourHeldIn
   pub sessionIsOpenIn : Fixed session.isOpenIn

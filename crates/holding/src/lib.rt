@@ -12,7 +12,7 @@ ghost use Rattle.bundle.specs.Bundles.{bundleIn, sameBundles};
 ghost use Rattle.frame.specs.FrameTable.{rowsOf};
 ghost use Rattle.frame.specs.Shape.{holdingShape, packetsOf, roomOf, shapeOf, voiceOf, voiceWith};
 ghost use Rattle.octets.specs.Octets.{allBelow};
-ghost use Rattle.holding.specs.Group.{Spans, voiceIn, holdingOf, nothing, begun, numbersOf, bare, isNothing, heldAt, bundleAt, withPacket};
+ghost use Rattle.holding.specs.Group.{Spans, voiceIn, holdingOf, nothing, begun, numbersOf, bare, isNothing, heldAt, bundleOf, bundleAt, withPacket};
 ghost use Rattle.holding.specs.Group.{packetRight, rightIn, sound, holds};
 ghost use Rattle.holding.specs.Asked.{withBit, bitsOf, described, lostBy, lostBetween};
 
@@ -192,14 +192,12 @@ pub fn is_held(h: Holding, n: usize) -> bool
     flags[n]
 }
 
-// internal: n comes from a payload that was read, so it is at most 7.
-// Whether packet n's frames are those of p.
-pub fn same_packet(h: Holding, n: usize, p: Bundle) -> bool
-    requires { ⌜ n < 8 ⌝ }
-    ensures { λ r. ⌜ r ≡ sameBundles (bundleAt holdingShape h n) p ⌝ }
+// internal: for a holding whose parts lie apart; n comes from a payload that was read, so it is at most 7.
+// Whether packet n's frames, of these types and cells, are those of p.
+pub fn same_packet_in(marks: &[u8], room: &[u8], n: usize, p: Bundle) -> bool
+    requires { ⌜ (n < 8) × (length (now marks) ≡ 80) × (length (now room) ≡ 1760) ⌝ }
+    ensures { λ r. ⌜ r ≡ sameBundles (bundleOf holdingShape (now (marks .entry)) (now (room .entry)) n) p ⌝ }
 {
-    let marks = h.marks;
-    let room = h.room;
     let other_marks = p.marks;
     let other_room = p.room;
     bundle::same_bundles(
@@ -208,6 +206,17 @@ pub fn same_packet(h: Holding, n: usize, p: Bundle) -> bool
         &other_marks,
         &other_room,
     )
+}
+
+// internal: n comes from a payload that was read, so it is at most 7.
+// Whether packet n's frames are those of p.
+pub fn same_packet(h: Holding, n: usize, p: Bundle) -> bool
+    requires { ⌜ n < 8 ⌝ }
+    ensures { λ r. ⌜ r ≡ sameBundles (bundleAt holdingShape h n) p ⌝ }
+{
+    let marks = h.marks;
+    let room = h.room;
+    same_packet_in(&marks, &room, n, p)
 }
 
 // Whether packet n, held or not, keeps the rule in a group of l and b.

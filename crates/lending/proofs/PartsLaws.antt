@@ -20,16 +20,15 @@ use Rattle.pouring.specs.Pouring.{inTime}
 use Rattle.holding.specs.Group.{Shaped, Spans, nothing}
 use Rattle.holding.proofs.GroupLaws.{sound-has, holds-sound}
 use Rattle.holding.specs.declared.Holding.{Holding}
-use Rattle.session.specs.Session.{vacant, neverOpened, isOpen, received, offered, pourMade, ended}
-use Rattle.session.specs.Standing.{whole, Stands, Fits, framesOf, offeredIn, decidedAs, decisionOf}
-use Rattle.session.specs.declared.Decision.{Decision}
+use Rattle.session.specs.Session.{vacant, neverOpened, isOpen, pourMade, ended}
+use Rattle.session.specs.Standing.{whole, Stands, offeredIn}
 use Rattle.session.specs.declared.Standing.{Standing}
 use Rattle.session.specs.declared.Session.{Session}
 use Rattle.session.specs.declared.Offered.{Offered}
 use Rattle.session.specs.declared.Stood.{Stood}
 use Rattle.session.proofs.Ends.{open-has}
-use Rattle.session.proofs.SessionLaws.{offer-open, group-holds, pour-group}
-use Rattle.session.proofs.StandingLaws.{decides-as}
+use Rattle.session.proofs.SessionLaws.{group-holds, pour-group}
+use Rattle.session.proofs.StandingLaws.{stands-of}
 use Rattle.lending.specs.Laid.{isSet, isLong, isLaid, formAt, holdingAt, holdingOctets, holdingLaid, sessionHead, sessionLaid, sessionAt, isSession, sessionIn, sessionVoice}
 use Rattle.lending.specs.Parts.{groupOctets, frontOctets, typesAt, bodiesAt}
 use Rattle.lending.proofs.Pieces.{length-holding, length-grouped, length-head, session-parts, length-front, length-before, length-session-laid}
@@ -212,7 +211,7 @@ found o t ms e q m =
     record {
       long = session-long o there;
       is = whole-in o t ms q m there;
-      stands = record { opened = one-open o t ms q m there ∙ e; spans = spans-in o t ms q m there };
+      stands = stands-of (sessionIn o) t ms (bodiesAt o) (whole-in o t ms q m there) e (spans-in o t ms q m there);
     }
 
 -- its B lies at 43
@@ -220,18 +219,8 @@ pub frames-at : (o : List ℕ) → isSession o ≡ true → getD o 43 0 ≡ sess
 unfolding sessionAt holdingAt
 frames-at o e = ap (λ (s : Session). s .group .b) (sym (one-in o e))
 
--- ---- an offer to it
-module _ (o : List ℕ) (t : Standing) (ms : List ℕ) (e : isOpen (sessionVoice o) (sessionIn o) ≡ true) (f : Found o t ms) where
-  module _ (source sequence timestamp : ℕ) (p : List ℕ) (d : Decision) (k : d ≡ decisionOf t source sequence timestamp p) where
-    pub may-take : Stands t ms (bodiesAt o) × Fits t (framesOf (t .form) p) d
-    may-take = (f .stands, decides-as t source sequence timestamp p d k .fits ms (bodiesAt o) (f .stands))
-
-    pub was-offered : (x : Offered) → x ≡ decidedAs (whole t ms (bodiesAt o)) (framesOf (t .form) p) d → x ≡ offered (sessionVoice o) (sessionIn o) source sequence timestamp p
-    was-offered x q =
-        q ∙ decides-as t source sequence timestamp p d k .means ms (bodiesAt o) (f .stands)
-        ∙ ap (λ (s : Session). received (voiceFor (s .form)) s source sequence timestamp p) (f .is) ∙ offer-open (sessionVoice o) (sessionIn o) source sequence timestamp p e
-
-  -- ---- and its group poured
+-- ---- its group poured
+module _ (o : List ℕ) (t : Standing) (ms : List ℕ) (f : Found o t ms) where
   module _ (n : sessionIn o .group .b ≡ 0 → ⊥) where
     some-in : t .numbers .b ≡ 0 → ⊥
     some-in z = n (sym (ap (λ (s : Session). s .group .b) (f .is)) ∙ z)

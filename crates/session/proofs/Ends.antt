@@ -159,19 +159,16 @@ offer-ends v s source sequence timestamp p = by-open (isOpen v s) refl (eqb sour
 -- ---- a refused offer leaves the session as it was
 pub refused-keeps : (v : Voice) (s : Session) (source sequence timestamp : ℕ) (p : List ℕ) (r : Refusal)
     → offered v s source sequence timestamp p .answer ≡ Refused r → offered v s source sequence timestamp p .session ≡ s
-unfolding refuse accept begins
+unfolding refuse accept
 refused-keeps v s source sequence timestamp p r = go (offered v s source sequence timestamp p) (offer-ends v s source sequence timestamp p)
   where
-    by-place : (a : Arrival) (o : Offered) → Placed (v .shape) s a o → o .answer ≡ Refused r → o .session ≡ s
-    by-place a o (no q m e) f = rw e
-    by-place a o (again q e) f = rw e
-    by-place a o (put q m l b e) f = let z : Accepted 0 ≡ Refused r = sym (ap (λ (x : Offered). x .answer) e) ∙ f in apart (cc)
-    by-place a o (first q p e) f = let z : Accepted 0 ≡ Refused r = sym (ap (λ (x : Offered). x .answer) e) ∙ f in apart (cc)
-    by-place a o (next q p lost g m e) f = let z : Accepted lost ≡ Refused r = sym (ap (λ (x : Offered). x .answer) e) ∙ f in apart (cc)
+    same : (m : ℕ) (o : Offered) → Seen s m o → o .answer ≡ Refused r → o .session ≡ s
+    same m o (kept x e) h = rw e
+    same m o (took t e) h = let z : Accepted m ≡ Refused r = sym (ap (λ (y : Offered). y .answer) e) ∙ h in apart (cc)
 
     go : (o : Offered) → Ends v s source sequence timestamp p o → o .answer ≡ Refused r → o .session ≡ s
-    go o (refuses q m e) f = rw e
-    go o (places i j l n d fs q x) f = by-place (arrival (v .shape) sequence timestamp l n fs) o x f
+    go o (refuses x k e) h = rw e
+    go o (places i j l n d fs q x) h = same _ o (seen (v .shape) s (arrival (v .shape) sequence timestamp l n fs) o x) h
 
 -- ---- an offer changes the held group alone
 placed-group : (u : Shape) (s : Session) (a : Arrival) (o : Offered) → Placed u s a o → o .session ≡ withGroup s (o .session .group)

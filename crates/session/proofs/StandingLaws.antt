@@ -380,16 +380,19 @@ module _ (t : Standing) (ms rs : List ℕ) (h : Stands t ms rs) where
     unfolding decidedAs accept withGroup withPacket holdingAlso
     took-more u e = rw (e, m, r)
 
--- ---- a session taken apart, and put together again
-module _ (s : Session) (t : Standing) (e : whole t (s .group .marks) (s .group .room) ≡ s) (i : isOpen (voiceFor (s .form)) s ≡ true) where
-  pub stands-of : Spans holdingShape (t .held) (s .group .marks) (s .group .room) → Stands t (s .group .marks) (s .group .room)
-  stands-of h = record { opened = subst (λ (x : Session). isOpen (voiceFor (x .form)) x ≡ true) (sym e) i; spans = h }
+-- ---- a session taken apart: what becomes of a packet there is what the session makes of it
+module _ (s : Session) (t : Standing) (ms rs : List ℕ) (e : whole t ms rs ≡ s) (i : isOpen (voiceFor (s .form)) s ≡ true) (x : Spans holdingShape (t .held) ms rs) where
+  pub stands-of : Stands t ms rs
+  stands-of = record { opened = subst (λ (y : Session). isOpen (voiceFor (y .form)) y ≡ true) (sym e) i; spans = x }
 
-  pub offered-of : (source sequence timestamp : ℕ) (p : List ℕ) (o : Offered)
-      → o ≡ received (voiceFor (t .form)) (whole t (s .group .marks) (s .group .room)) source sequence timestamp p
-      → o ≡ offered (voiceFor (s .form)) s source sequence timestamp p
-  offered-of source sequence timestamp p o q =
-      q ∙ ap (λ (x : Session). received (voiceFor (x .form)) x source sequence timestamp p) e ∙ offer-open (voiceFor (s .form)) s source sequence timestamp p i
+  module _ (source sequence timestamp : ℕ) (p : List ℕ) (d : Decision) (k : d ≡ decisionOf t source sequence timestamp p) where
+    pub may-take : Stands t ms rs × Fits t (framesOf (t .form) p) d
+    may-take = (stands-of, decides-as t source sequence timestamp p d k .fits ms rs stands-of)
+
+    pub offered-of : (o : Offered) → o ≡ decidedAs (whole t ms rs) (framesOf (t .form) p) d → o ≡ offered (voiceFor (s .form)) s source sequence timestamp p
+    offered-of o q =
+        q ∙ decides-as t source sequence timestamp p d k .means ms rs stands-of
+        ∙ ap (λ (y : Session). received (voiceFor (y .form)) y source sequence timestamp p) e ∙ offer-open (voiceFor (s .form)) s source sequence timestamp p i
 
 -- what was answered, with a session that is the one put together
 pub taken-as : (o : Stood) (ms rs : List ℕ) (s : Session) → s ≡ whole (o .standing) ms rs → _≡_ {A = Offered} (record { answer = o .answer; session = s }) (offeredIn o ms rs)

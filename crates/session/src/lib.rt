@@ -446,17 +446,7 @@ fn has_frames(form: Form, payload: &[u8], n: u8, marks: &[u8], room: &[u8]) -> b
     ensures { λ r. ⌜ r ≡ sameBundles (bundleOf holdingShape (now (marks .entry)) (now (room .entry)) n) (laid holdingShape (framesOf form (now (payload .entry)))) ⌝ }
 {
     let packet = payload::lay_out(form, payload);
-    let other_marks = packet.marks;
-    let other_room = packet.room;
-    let index = n as usize;
-    let at = 10 * index;
-    let from = 220 * index;
-    bundle::same_bundles(
-        &marks[at..at + 10],
-        &room[from..from + 220],
-        &other_marks,
-        &other_room,
-    )
+    holding::same_packet_in(marks, room, n as usize, packet)
 }
 
 // A packet that is held already: accepted if it has the same frames, else 14.

@@ -123,6 +123,22 @@ isHeld = record {
   left = λ κs s. tt;
 }
 
+-- same_packet_in(marks: &[u8], room: &[u8], n: usize, p: Bundle) -> bool
+abbrev pub samePacketIn : Call
+samePacketIn = record {
+  lifetimes = 2;
+  parameters = contracts.same_packet_in.Kinds.ps;
+  result = contracts.same_packet_in.Kinds.r;
+  allows = contracts.same_packet_in.Reads.Post;
+  Answer = Bool;
+  answer = λ κs x. x;
+  Given = List ℕ × (List ℕ × (ℕ × Bundle));
+  given = λ κs a. (now (a .0), (now (a .1 .0), (a .1 .1 .0, a .1 .1 .1 .0)));
+  Lent = Unit {0};
+  lent = λ κs a. tt;
+  left = λ κs s. tt;
+}
+
 -- same_packet(h: Holding, n: usize, p: Bundle) -> bool
 abbrev pub samePacket : Call
 samePacket = record {

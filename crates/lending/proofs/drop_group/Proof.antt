@@ -40,7 +40,7 @@ returns-2 c =
     let held = sym (at-has-group .has-group .ensures) ∙ not-false _ (at-if1 .if1 .left) in
     let opened = group-held _ _ held .0 in
     let there = found _ _ _ opened (at-standing-at .standing-at .ensures) refl in
-    drop-done _ _ held _ (ended-in _ _ _ opened there _ _ (at-end-group .end-group .ensures) (c .before .before .put-vacant .ensures))
+    drop-done _ _ held _ (ended-in _ _ _ there _ _ (at-end-group .end-group .ensures) (c .before .before .put-vacant .ensures))
 
 pub drop-group-spec : {M : Type 1} → statement M
 drop-group-spec =

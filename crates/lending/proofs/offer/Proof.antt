@@ -3,8 +3,9 @@ use mathlib.Core.Path.{sym, _∙_}
 use native.Mathlib.Omega.{arith}
 use borrow.Author.Tests.{not-true, not-false}
 use borrow.Author.Needs.{needs}
+use Rattle.session.proofs.StandingLaws.{may-take, offered-of}
 use Rattle.lending.proofs.CallsLaws.{offer-closed, offer-keeps, offer-refused, offer-accepted}
-use Rattle.lending.proofs.PartsLaws.{open-there, session-long, found, may-take, was-offered, kept-bodies, around-kept}
+use Rattle.lending.proofs.PartsLaws.{open-there, session-long, found, kept-bodies, around-kept}
 use Rattle.lending.proofs.offer.Statement.{statement}
 use Rattle.lending.proofs.offer.Tie as tie
 
@@ -38,7 +39,7 @@ take-packet-requires c κs =
     let at-is-open = at-if1 .before in
     let opened = sym (at-is-open .is-open .ensures) ∙ not-false _ (at-if1 .if1 .left) in
     let there = found _ _ _ opened (at-standing-at .standing-at .ensures) (c .before .before .before .marks-at .ensures) in
-    let may = may-take _ _ _ opened there _ _ _ _ _ (c .before .before .decide .ensures) in
+    let may = may-take _ _ _ _ (there .is) opened (there .stands .spans) _ _ _ _ _ (c .before .before .decide .ensures) in
     (there .long, may .0, may .1)
 
 enum-known-answer : tie.Need-enum-known-answer
@@ -74,7 +75,7 @@ returns-2 c =
     let at-is-open = at-if1 .before in
     let opened = sym (at-is-open .is-open .ensures) ∙ not-false _ (at-if1 .if1 .left) in
     let there = found _ _ _ opened (at-standing-at .standing-at .ensures) (at-marks-at .marks-at .ensures) in
-    let took = was-offered _ _ _ opened there _ _ _ _ _ (at-decide .decide .ensures) _ (at-take-packet .take-packet .ensures .0) in
+    let took = offered-of _ _ _ _ (there .is) opened (there .stands .spans) _ _ _ _ _ (at-decide .decide .ensures) _ (at-take-packet .take-packet .ensures .0) in
     let same = kept-bodies _ _ _ _ there (offer-keeps _ _ _ _ _ _ _ took _ (c .before .answer .given .1)) in
     offer-refused _ _ _ _ _ _ _ took _ _ (c .before .answer .given .1) (at-take-packet .take-packet .ensures .1 ∙ same)
 
@@ -92,7 +93,7 @@ returns-3 c =
     let at-is-open = at-if1 .before in
     let opened = sym (at-is-open .is-open .ensures) ∙ not-false _ (at-if1 .if1 .left) in
     let there = found _ _ _ opened (at-standing-at .standing-at .ensures) (at-marks-at .marks-at .ensures) in
-    let took = was-offered _ _ _ opened there _ _ _ _ _ (at-decide .decide .ensures) _ (at-take-packet .take-packet .ensures .0) in
+    let took = offered-of _ _ _ _ (there .is) opened (there .stands .spans) _ _ _ _ _ (at-decide .decide .ensures) _ (at-take-packet .take-packet .ensures .0) in
     let laid = around-kept _ _ _ _ _ (there .long) (at-take-packet .take-packet .kept .0) (at-take-packet .take-packet .ensures .1) (c .before .before .put-session .ensures) in
     offer-accepted _ _ _ _ _ _ _ took _ _ (at-answer2 .answer2 .given .1) laid
 

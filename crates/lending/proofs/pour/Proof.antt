@@ -48,7 +48,7 @@ pour-held-in-requires c κs =
     let at-if1 = at-standing-at .before .before in
     let at-has-group = at-if1 .before in
     let held = group-held _ _ (sym (at-has-group .has-group .ensures) ∙ not-false _ (at-if1 .if1 .left)) in
-    may-pour _ _ _ (held .0) (found _ _ _ (held .0) (at-standing-at .standing-at .ensures) (at-marks-at .marks-at .ensures)) (held .1)
+    may-pour _ _ _ (found _ _ _ (held .0) (at-standing-at .standing-at .ensures) (at-marks-at .marks-at .ensures)) (held .1)
 
 enum-known-written : tie.Need-enum-known-written
 enum-known-written c = search needs
@@ -80,7 +80,7 @@ returns-2 c =
     let at-has-group = at-if1 .before in
     let held = group-held _ _ (sym (at-has-group .has-group .ensures) ∙ not-false _ (at-if1 .if1 .left)) in
     let there = found _ _ _ (held .0) (at-standing-at .standing-at .ensures) (at-marks-at .marks-at .ensures) in
-    pour-refused _ _ _ _ _ _ (poured-in _ _ _ (held .0) there (held .1)) (at-pour-held-in .pour-held-in .ensures) _ (c .before .written .given .1)
+    pour-refused _ _ _ _ _ _ (poured-in _ _ _ there (held .1)) (at-pour-held-in .pour-held-in .ensures) _ (c .before .written .given .1)
 
 same-length-4 : tie.Need-same-length-4
 same-length-4 c = search needs
@@ -99,8 +99,8 @@ returns-3 c =
     let at-has-group = at-if1 .before in
     let held = group-held _ _ (sym (at-has-group .has-group .ensures) ∙ not-false _ (at-if1 .if1 .left)) in
     let there = found _ _ _ (held .0) (at-standing-at .standing-at .ensures) (at-marks-at .marks-at .ensures) in
-    let gone = ended-in _ _ _ (held .0) there _ _ (at-end-group .end-group .ensures) (c .before .before .put-vacant .ensures) in
-    pour-octets _ _ _ _ _ _ (poured-in _ _ _ (held .0) there (held .1)) (at-pour-held-in .pour-held-in .ensures) _ _ (at-written2 .written2 .given .1) gone
+    let gone = ended-in _ _ _ there _ _ (at-end-group .end-group .ensures) (c .before .before .put-vacant .ensures) in
+    pour-octets _ _ _ _ _ _ (poured-in _ _ _ there (held .1)) (at-pour-held-in .pour-held-in .ensures) _ _ (at-written2 .written2 .given .1) gone
 
 pub pour-spec : {M : Type 1} → statement M
 pour-spec =

@@ -3,7 +3,7 @@ use mathlib.Core.Path.{sym, _∙_}
 use borrow.Author.Tests.{not-true, not-false}
 use borrow.Author.Needs.{needs}
 use Rattle.session.proofs.SessionLaws.{offer-closed}
-use Rattle.session.proofs.StandingLaws.{decides-as, stands-of, offered-of, taken-as}
+use Rattle.session.proofs.StandingLaws.{may-take, offered-of, taken-as}
 use Rattle.session.proofs.offer.Statement.{statement}
 use Rattle.session.proofs.offer.Tie as tie
 
@@ -40,8 +40,7 @@ take-requires c κs =
     let at-is-open = at-if1 .before in
     let start = at-is-open .before .before in
     let opened = sym (at-is-open .is-open .ensures) ∙ not-false _ (at-if1 .if1 .left) in
-    let stands = stands-of (start .args .session) _ (at-standing-of .standing-of .ensures .0) opened (at-standing-of .standing-of .ensures .1) in
-    (stands, decides-as _ _ _ _ _ _ (at-decide .decide .ensures) .fits _ _ stands)
+    may-take (start .args .session) _ _ _ (at-standing-of .standing-of .ensures .0) opened (at-standing-of .standing-of .ensures .1) _ _ _ _ _ (at-decide .decide .ensures)
 
 put-together-requires : tie.Need-put-together-requires
 put-together-requires c κs = search needs
@@ -55,9 +54,8 @@ returns-2 c =
     let at-is-open = at-if1 .before in
     let start = at-is-open .before .before in
     let opened = sym (at-is-open .is-open .ensures) ∙ not-false _ (at-if1 .if1 .left) in
-    let stands = stands-of (start .args .session) _ (at-standing-of .standing-of .ensures .0) opened (at-standing-of .standing-of .ensures .1) in
-    offered-of (start .args .session) _ (at-standing-of .standing-of .ensures .0) opened _ _ _ _ _
-    (taken-as _ _ _ _ (c .put-together .ensures) ∙ at-take .take .ensures ∙ decides-as _ _ _ _ _ _ (at-decide .decide .ensures) .means _ _ stands)
+    offered-of (start .args .session) _ _ _ (at-standing-of .standing-of .ensures .0) opened (at-standing-of .standing-of .ensures .1) _ _ _ _ _ (at-decide .decide .ensures) _
+    (taken-as _ _ _ _ (c .put-together .ensures) ∙ at-take .take .ensures)
 
 pub offer-spec : {M : Type 1} → statement M
 offer-spec =

@@ -1,12 +1,10 @@
--- `holding::same_packet` meets its contract.
-use mathlib.Core.Path.{_≡_, _∙_}
-use native.Mathlib.Omega.{arith}
-use lib.ListN.{length}
+-- `holding::same_packet_in` meets its contract.
+use mathlib.Core.Path.{_∙_}
 use borrow.Author.Needs.{needs}
 use Rattle.frame.specs.Shape.{holdingShape}
 use Rattle.holding.proofs.GroupLaws.{packets-cut}
-use Rattle.holding.proofs.same_packet.Statement.{statement}
-use Rattle.holding.proofs.same_packet.Tie as tie
+use Rattle.holding.proofs.same_packet_in.Statement.{statement}
+use Rattle.holding.proofs.same_packet_in.Tie as tie
 
 mul-same-bundles : tie.Need-mul-same-bundles
 mul-same-bundles c = search needs
@@ -24,9 +22,7 @@ part-same-bundles-start : tie.Need-part-same-bundles-start
 part-same-bundles-start c = search needs
 
 part-same-bundles-end : tie.Need-part-same-bundles-end
-part-same-bundles-end c =
-    let h : length (c .before .before .before .before .before .args .h .marks) ≡ 80 = search needs in
-    omega arith
+part-same-bundles-end c = search needs
 
 mul-same-bundles-3 : tie.Need-mul-same-bundles-3
 mul-same-bundles-3 c = search needs
@@ -44,9 +40,7 @@ part-same-bundles-start-2 : tie.Need-part-same-bundles-start-2
 part-same-bundles-start-2 c = search needs
 
 part-same-bundles-end-2 : tie.Need-part-same-bundles-end-2
-part-same-bundles-end-2 c =
-    let h : length (c .before .before .before .before .before .before .before .args .h .room) ≡ 1760 = search needs in
-    omega arith
+part-same-bundles-end-2 c = search needs
 
 slice-aggregate-same-bundles : tie.Need-slice-aggregate-same-bundles
 slice-aggregate-same-bundles c = search needs
@@ -60,8 +54,8 @@ same-bundles-requires c κs = search needs
 returns : tie.Need-returns
 returns c = c .same-bundles .ensures ∙ packets-cut holdingShape _ _ _ _
 
-pub same-packet-spec : {M : Type 1} → statement M
-same-packet-spec =
+pub same-packet-in-spec : {M : Type 1} → statement M
+same-packet-in-spec =
     tie.close
     (tie.spec
     mul-same-bundles

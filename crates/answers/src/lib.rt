@@ -1,10 +1,12 @@
 // Answers (document 01, "Answers by number"): the refusals, and what a call answers that writes, or that gives no number.
+#![tactic(auto)]
+
 ghost use Rattle.std.specs.Prelude.{◌≡◌};
 ghost use Rattle.answers.specs.Answers.{number_of, place_of};
 
 // The refusals, each by the number that document 01 or 02 gives it. Those of which document 02, (i), asks it carry the octet place of the
 // fault.
-#[derive(Drop)]
+#[derive(Clone, Copy)]
 pub enum Refusal {
     NoOctet,
     IndexPastLength,
@@ -40,7 +42,7 @@ pub enum Refusal {
 }
 
 // The octet place of a fault, counted from 0; or no octet is at fault.
-#[derive(Drop)]
+#[derive(Clone, Copy)]
 pub enum Place {
     Octet(usize),
     Nowhere,
@@ -111,14 +113,14 @@ impl Refusal {
 }
 
 // What a call that writes answers: how many octets, or the refusal.
-#[derive(Drop)]
+#[derive(Clone, Copy)]
 pub enum Written {
     Octets(usize),
     Refused(Refusal),
 }
 
 // What a call answers that gives no number: done, or the refusal.
-#[derive(Drop)]
+#[derive(Clone, Copy)]
 pub enum Answer {
     Done,
     Refused(Refusal),

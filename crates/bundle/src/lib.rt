@@ -1,4 +1,6 @@
 // One packet's frames laid out (document 01, "Groups"): their types and bodies, whether they keep the rule, and whether they are the same.
+#![tactic(auto)]
+
 ghost use Rattle.std.specs.Prelude.{◌≡◌, ◌<◌, length};
 ghost use Rattle.frame.specs.Shape.{room_of, holding_shape, shape_of, voice_of};
 ghost use Rattle.bundle.specs.Bundles.{bundle_in, not_held, same_bundles, may_stand, frame_right, frames_right};
@@ -6,7 +8,7 @@ ghost use Rattle.bundle.specs.Bundles.{bundle_in, not_held, same_bundles, may_st
 use frame::{Lookup, Vocoder};
 
 // One packet's frames: frame k's type at marks[k] and its body at room[22 * k ..].
-#[derive(Drop)]
+#[derive(Clone, Copy)]
 pub struct Bundle {
     pub marks: [u8; 10],
     pub room: [u8; 220],

@@ -1,4 +1,6 @@
 // Captures (document 01, "Capture program"): the packets that a box heard, turned into a recording.
+#![tactic(auto)]
+
 ghost use Rattle.std.specs.Prelude.{◌≡◌, true, List, ◌+◌, ◌*◌, ◌<◌, ◌≤◌, length, replicate, leb};
 ghost use Rattle.frame.specs.FrameTable.{Frame};
 ghost use Rattle.frame.specs.Shape.{holding_shape, voice_with};
@@ -33,21 +35,21 @@ pub fn room() -> [u8; LARGEST]
 const ERASURE: u8 = 0x0E;
 
 // What became of a capture: it is bad; or its recording was written, or refused.
-#[derive(Drop)]
+#[derive(Clone, Copy)]
 pub enum Outcome {
     BadCapture,
     Recorded(Written),
 }
 
 // What a packet of a capture was answered: the capture is bad; or the answer to its offer.
-#[derive(Drop)]
+#[derive(Clone, Copy)]
 pub enum Told {
     BadCapture,
     Answered(Taken),
 }
 
 // A run over a capture, as the definitions speak of it: its session, and the octets recorded so far.
-#[derive(Drop)]
+#[derive(Clone, Copy)]
 pub struct Run {
     pub session: Session,
     pub octets: usize,
@@ -55,14 +57,14 @@ pub struct Run {
 
 // A run in place: all of its session but the types and the bodies of its group, which lie in arrays beside it, and the octets
 // recorded so far. A measuring run has no such arrays, and counts the octets of the held group too.
-#[derive(Drop)]
+#[derive(Clone, Copy)]
 pub struct Going {
     pub standing: Standing,
     pub octets: usize,
 }
 
 // A packet that was taken: the run after it, and what it was answered.
-#[derive(Drop)]
+#[derive(Clone, Copy)]
 pub struct Took {
     pub going: Going,
     pub answer: Taken,
@@ -83,7 +85,7 @@ fn payload_octets(capture: &[u8], n: usize) -> usize
 }
 
 // Why octets are no capture, in the order that it is judged; each case carries what a person needs to see it.
-#[derive(Drop)]
+#[derive(Clone, Copy)]
 pub enum Fault {
     // They are one.
     None,

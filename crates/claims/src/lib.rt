@@ -1,1 +1,2 @@
 // No code: specs/ states what the whole promises, and proofs/ has a proof of each claim.
+#![tactic(auto)]

@@ -1,4 +1,6 @@
 // Entries, one octet and then the body (document 01, "Recordings" and "Writing packets"): counted by a rule, sought, written with F and D cleared.
+#![tactic(auto)]
+
 ghost use Rattle.std.specs.Prelude.{◌≡◌, ◌+◌, ◌<◌, ◌≤◌, length, take, drop};
 ghost use Rattle.frame.specs.FrameTable.{rows_of};
 ghost use Rattle.frame.specs.Places.{taken};
@@ -11,14 +13,14 @@ use answers::Refusal;
 use frame::{Lookup, Vocoder};
 
 // How many frames there are, or the refusal.
-#[derive(Drop)]
+#[derive(Clone, Copy)]
 pub enum Counted {
     Frames(usize),
     Refused(Refusal),
 }
 
 // Which frames entries may hold: any; those that may be sent; those that may be sent without a header.
-#[derive(Drop)]
+#[derive(Clone, Copy)]
 pub enum Rule {
     Any,
     Sendable,

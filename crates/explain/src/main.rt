@@ -1,6 +1,8 @@
 // Reads a capture from standard input and tells on standard output, for a person, what became of each of its packets; then how
 // many were taken and refused, and what its recording holds. A bad capture gives the line "bad capture" and no more: the recorder
 // tells why.
+#![tactic(auto)]
+
 mod answer;
 mod columns;
 mod packets;

@@ -1,18 +1,20 @@
 // The agreed form of a session and its maxima (document 01, "Payloads").
+#![tactic(auto)]
+
 ghost use Rattle.std.specs.Prelude.{◌≡◌};
 ghost use Rattle.form.specs.Agreed.{opened, defaults};
 
 use answers::Refusal;
 
 // The agreed maxima: the greatest L and the greatest B.
-#[derive(Drop)]
+#[derive(Clone, Copy)]
 pub struct Limits {
     pub max_l: u8,
     pub max_b: u8,
 }
 
 // Limits that are in range, or the refusal.
-#[derive(Drop)]
+#[derive(Clone, Copy)]
 pub enum Opened {
     Agreed(Limits),
     Refused(Refusal),
@@ -59,7 +61,7 @@ impl Limits {
 }
 
 // The agreed form of a session: header-free, or interleaved with its maxima.
-#[derive(Drop)]
+#[derive(Clone, Copy)]
 pub enum Form {
     HeaderFree,
     Interleaved(Limits),

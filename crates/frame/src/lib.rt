@@ -1,4 +1,6 @@
 // Frames (document 01, "Frames"): vocoders, their frame tables and the shapes of their groups; and where a frame lies ("Payloads").
+#![tactic(auto)]
+
 ghost use Rattle.std.specs.Prelude.{◌≡◌};
 ghost use Rattle.frame.specs.FrameTable.{evrc, rows_of, row_of, row_of_size, size, low_bits, sendable};
 ghost use Rattle.frame.specs.Shape.{packets_of, shape_of};
@@ -8,7 +10,7 @@ use answers::Refusal;
 
 // A row of a frame table: a type, the octets of its body, the low bits of the last octet that are zero when sent, and
 // whether a frame of the type may be sent.
-#[derive(Drop)]
+#[derive(Clone, Copy)]
 pub struct Row {
     pub kind: u8,
     pub octets: usize,
@@ -17,14 +19,14 @@ pub struct Row {
 }
 
 // What a table has for a type, or for a size.
-#[derive(Drop)]
+#[derive(Clone, Copy)]
 pub enum Lookup {
     Found(Row),
     Missing,
 }
 
 // The vocoders that the sets speak, each with a frame table.
-#[derive(Drop)]
+#[derive(Clone, Copy)]
 pub enum Vocoder {
     Evrc,
 }
@@ -161,7 +163,7 @@ pub fn is_sendable(vocoder: Vocoder, kind: u8, body: &[u8]) -> bool
 }
 
 // Where a frame lies: its type, and its body's start and size; or the refusal.
-#[derive(Drop)]
+#[derive(Clone, Copy)]
 pub enum Located {
     At { kind: u8, start: usize, size: usize },
     Refused(Refusal),

@@ -1,5 +1,7 @@
 // Two boxes' holdings of one group, joined and poured, once for each octet of standard input (at most 65,536). Each round changes
 // a body by its octet, so that no round is the one before. Writes how many octets were poured in all, and what was poured last.
+#![tactic(auto)]
+
 ghost use Rattle.std.specs.Prelude.{◌<◌};
 
 use answers::Written;

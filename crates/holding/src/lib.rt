@@ -1,5 +1,7 @@
 // Groups (document 01, "Groups"): the holding, one group as far as heard; whether it keeps the rule; a packet put in and compared;
 // what a host of two boxes asks of holdings.
+#![tactic(auto)]
+
 ghost use Rattle.std.specs.Prelude.{◌≡◌, ℕ, ◌<◌, ◌≤◌, length};
 ghost use Rattle.bundle.specs.Bundles.{bundle_in, same_bundles};
 ghost use Rattle.frame.specs.FrameTable.{rows_of};
@@ -15,7 +17,7 @@ use frame::Vocoder;
 use numbers::{GroupNumbers, Verdict};
 
 // One group as far as heard. Frame k of packet n has its type at marks[10 * n + k] and its body at room[220 * n + 22 * k ..].
-#[derive(Drop)]
+#[derive(Clone, Copy)]
 pub struct Holding {
     pub source: u32,
     pub sequence: u16,
@@ -28,7 +30,7 @@ pub struct Holding {
 }
 
 // What a holding is: its source, the numbers of its group, and which packets it holds, bit N for packet N; or the refusal.
-#[derive(Drop)]
+#[derive(Clone, Copy)]
 pub enum Described {
     Group {
         source: u32,
@@ -39,7 +41,7 @@ pub enum Described {
 }
 
 // The lost frames between two groups, or the refusal.
-#[derive(Drop)]
+#[derive(Clone, Copy)]
 pub enum Lost {
     Frames(usize),
     Refused(Refusal),

@@ -1,4 +1,6 @@
 // Joining two holdings (document 01, "Session").
+#![tactic(auto)]
+
 ghost use Rattle.std.specs.Prelude.{◌≡◌, ◌<◌};
 ghost use Rattle.bundle.specs.Bundles.{bundle_in};
 ghost use Rattle.frame.specs.Shape.{packets_of, holding_shape, shape_of};
@@ -11,7 +13,7 @@ use frame::Vocoder;
 use holding::Holding;
 
 // The answer of a joining, and what it made: a holding of nothing where it was refused.
-#[derive(Drop)]
+#[derive(Clone, Copy)]
 pub struct Joined {
     pub answer: Answer,
     pub holding: Holding,

@@ -1,4 +1,6 @@
 // The calls for a host in C (include/landing_voice.h): numbers and byte slices in, 0 or a refusal's number out.
+#![tactic(auto)]
+
 ghost use Rattle.std.specs.Prelude.{◌≡◌};
 ghost use Rattle.answers.specs.Answers.{number_of, place_of};
 ghost use Rattle.answers.specs.Outputs.{Writes, written_of};
@@ -28,7 +30,7 @@ use payload::Contents;
 use session::Taken;
 
 // The agreed form that a host names by a number and two maxima, or the refusal.
-#[derive(Drop)]
+#[derive(Clone, Copy)]
 pub enum Named {
     Agreed(Form),
     Refused(Refusal),

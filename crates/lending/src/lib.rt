@@ -1,5 +1,7 @@
 // Sessions and holdings in 2,304 octets that a host lends (LAYOUT.md has the layout), and the calls of document 01, "Session",
 // on them. All of a session never opened is zero, and so is all of one that was ended.
+#![tactic(auto)]
+
 ghost use Rattle.std.specs.Prelude.{◌≡◌, Bool, List, [], ◌∷◌, map, ℕ, ◌+◌, ◌≤◌, length, take, drop};
 ghost use Rattle.answers.specs.Outputs.{Writes};
 ghost use Rattle.octets.specs.Octets.{over, shifted};

@@ -1,5 +1,7 @@
 // Numbers of groups (document 01, "Groups" and "Session"; document 02, (ii)): base numbers, and what numbers alone decide of the place of
 // a packet.
+#![tactic(auto)]
+
 ghost use Rattle.std.specs.Prelude.{◌≡◌};
 ghost use Rattle.numbers.specs.Bases.{base_sequence, base_timestamp};
 ghost use Rattle.numbers.specs.Place.{differ, with_held, pause, after_pause, after_poured, decided};
@@ -7,7 +9,7 @@ ghost use Rattle.numbers.specs.Place.{differ, with_held, pause, after_pause, aft
 use answers::Refusal;
 
 // The numbers that the packets of a group share: base sequence number, base timestamp, L and B.
-#[derive(Drop)]
+#[derive(Clone, Copy)]
 pub struct GroupNumbers {
     pub sequence: u16,
     pub timestamp: u32,
@@ -16,7 +18,7 @@ pub struct GroupNumbers {
 }
 
 // The group that a packet comes after: none, the last one poured, or the one that is held.
-#[derive(Drop)]
+#[derive(Clone, Copy)]
 pub enum Before {
     Nothing,
     Poured(GroupNumbers),
@@ -24,7 +26,7 @@ pub enum Before {
 }
 
 // What numbers decide of a packet: it begins a group, with so many lost frames before it; it belongs to the held group; or the refusal.
-#[derive(Drop)]
+#[derive(Clone, Copy)]
 pub enum Verdict {
     Begins(usize),
     Belongs,

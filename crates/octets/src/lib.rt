@@ -1,4 +1,6 @@
 // Octets in slices: copied, filled, compared, tested for zero, read and written as numbers; flags, tested for one that is set.
+#![tactic(auto)]
+
 ghost use Rattle.std.specs.Prelude.{◌≡◌, ◌+◌, ◌*◌, ◌≤◌, ◌&&◌, map, length, replicate, ◌==◌};
 ghost use Rattle.octets.specs.Octets.{over, same_octets, all_zero, any_set, shifted, two_at, four_at, two_octets, four_octets};
 

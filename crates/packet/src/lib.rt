@@ -1,4 +1,6 @@
 // Writes packets (document 01, "Writing packets"): packet N of an interleave group, and header-free packets.
+#![tactic(auto)]
+
 ghost use Rattle.std.specs.Prelude.{◌≡◌, ℕ, ◌+◌, ◌*◌, ◌<◌, ◌≤◌, length, get_or};
 ghost use Rattle.answers.specs.Outputs.{Writes};
 ghost use Rattle.entries.specs.Kind.{kind_of};

@@ -1,4 +1,6 @@
 // Reads payloads (document 01, "Payloads"): octet 0, the table of contents, the bodies; or one body and nothing else.
+#![tactic(auto)]
+
 ghost use Rattle.std.specs.Prelude.{◌≡◌, ◌⊎◌, ℕ, ◌+◌, ◌-◌, ◌<◌, ◌≤◌, map, length, drop, take, get_or};
 ghost use Rattle.bundle.specs.Bundles.{bundle_in, not_held};
 ghost use Rattle.bundle.specs.LaidOut.{laid};
@@ -19,7 +21,7 @@ use form::{Form, Limits, Opened};
 use frame::{Located, Lookup, Vocoder};
 
 // What a payload holds: L, N, B and D, or the refusal.
-#[derive(Drop)]
+#[derive(Clone, Copy)]
 pub enum Contents {
     Packet { l: u8, n: u8, b: u8, d: u8 },
     Refused(Refusal),
@@ -27,7 +29,7 @@ pub enum Contents {
 
 // What the walk over a table of contents yields: the count of the entries, the size of their bodies and the last entry's D,
 // or the refusal.
-#[derive(Drop)]
+#[derive(Clone, Copy)]
 pub enum Walked {
     Whole { count: usize, size: usize, d: u8 },
     Fault(Refusal),

@@ -1,4 +1,6 @@
 // Pouring a holding (document 01, "Session"): all its places in time order, as recording entries.
+#![tactic(auto)]
+
 ghost use Rattle.std.specs.Prelude.{◌≡◌, ◌+◌, ◌*◌, ◌<◌, ◌≤◌, length, true};
 ghost use Rattle.answers.specs.Outputs.{Writes};
 ghost use Rattle.entries.specs.Entries.{entries_of};

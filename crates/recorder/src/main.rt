@@ -1,5 +1,7 @@
 // Reads a capture from standard input and writes its recording to standard output, or the line "bad capture", with the reason on
 // standard error. Nothing is written before the whole capture is judged.
+#![tactic(auto)]
+
 use answers::Written;
 use capture::{Fault, Outcome};
 use libc::{STDERR_FILENO, STDIN_FILENO, STDOUT_FILENO};

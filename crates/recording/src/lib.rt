@@ -1,4 +1,6 @@
 // Recordings (document 01, "Recordings"): the opening octets, then entries of one octet and a body.
+#![tactic(auto)]
+
 ghost use Rattle.std.specs.Prelude.{◌≡◌};
 ghost use Rattle.answers.specs.Outputs.{Writes};
 ghost use Rattle.entries.specs.Counting.{counted_of};

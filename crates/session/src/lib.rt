@@ -1,4 +1,6 @@
 // Sessions (document 01, "Session"): open, offer, pour, copy out, drop, end. A session is carried by value.
+#![tactic(auto)]
+
 ghost use Rattle.std.specs.Prelude.{◌≡◌, List, ℕ, ◌*◌, ◌<◌, length};
 ghost use Rattle.octets.specs.Octets.{over};
 ghost use Rattle.answers.specs.Outputs.{Writes};
@@ -23,7 +25,7 @@ use payload::Contents;
 
 // A session: the source and the agreed form it was opened for, the group it holds (a holding of nothing if it holds none), and
 // the numbers of the last group it poured, if it poured one.
-#[derive(Drop)]
+#[derive(Clone, Copy)]
 pub struct Session {
     pub open: bool,
     pub source: u32,
@@ -38,7 +40,7 @@ pub struct Session {
 
 // All of a session but the types and the bodies of its group, which lie in arrays that are lent beside it: so it is handed on
 // without moving them. The numbers are those of the held group, zeros where none is; `last` are those of the last poured one.
-#[derive(Drop)]
+#[derive(Clone, Copy)]
 pub struct Standing {
     pub open: bool,
     pub source: u32,
@@ -52,7 +54,7 @@ pub struct Standing {
 
 // What is decided of a packet before a frame of it is copied: it begins a group, after so many lost frames; it is put into the
 // held group; its packet is held already; or the refusal.
-#[derive(Drop)]
+#[derive(Clone, Copy)]
 pub enum Decision {
     Begins {
         numbers: GroupNumbers,
@@ -69,14 +71,14 @@ pub enum Decision {
 }
 
 // What an offer answers, and the session after it, all but the types and the bodies of its group.
-#[derive(Drop)]
+#[derive(Clone, Copy)]
 pub struct Stood {
     pub answer: Taken,
     pub standing: Standing,
 }
 
 // A packet that was read, with the numbers of its group and its frames laid out, as the definitions speak of it.
-#[derive(Drop)]
+#[derive(Clone, Copy)]
 pub struct Arrival {
     pub numbers: GroupNumbers,
     pub n: u8,
@@ -84,38 +86,38 @@ pub struct Arrival {
 }
 
 // What an offer answers: accepted, with the lost frames before it, or the refusal.
-#[derive(Drop)]
+#[derive(Clone, Copy)]
 pub enum Taken {
     Accepted(usize),
     Refused(Refusal),
 }
 
-#[derive(Drop)]
+#[derive(Clone, Copy)]
 pub struct Offered {
     pub answer: Taken,
     pub session: Session,
 }
 
-#[derive(Drop)]
+#[derive(Clone, Copy)]
 pub struct Started {
     pub answer: Answer,
     pub session: Session,
 }
 
-#[derive(Drop)]
+#[derive(Clone, Copy)]
 pub struct Poured {
     pub answer: Written,
     pub session: Session,
 }
 
 // The holding that was copied out; one of nothing where it was refused.
-#[derive(Drop)]
+#[derive(Clone, Copy)]
 pub struct Copied {
     pub answer: Answer,
     pub holding: Holding,
 }
 
-#[derive(Drop)]
+#[derive(Clone, Copy)]
 pub struct Dropped {
     pub answer: Answer,
     pub session: Session,

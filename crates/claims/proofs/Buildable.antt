@@ -3,6 +3,7 @@ use Prim.Native.Nat.{ℕ}
 use mathlib.Core.Path.{◌≡◌, refl}
 use mathlib.Core.List.{List, []}
 use denote.Ref.{Bor}
+use denote.MutBor.{MutBor}
 use contract.Lifetimes.{Lfts}
 use Rattle.answers.specs.Outputs.{Made, written_of, out_after}
 use Rattle.entries.specs.Kind.{kind_of}
@@ -27,6 +28,10 @@ use Rattle.claims.proofs.Seen.{count-seen, write-seen}
 abbrev lies : {A : Type 0} → A → Bor A
 lies x = record { ref_ptr = (0, 0); now = x }
 
+-- the same of a reference that is lent to be written to
+abbrev is-lent-so : {A : Type 0} → A → MutBor A
+is-lent-so x = record { ref_ptr = (0, 0); ghost_name = 0; now = x }
+
 -- what is passed so, and what comes of it, by name
 exactly : {call : Call} (κs : Lfts call.lifetimes) (a : Passed call κs) (x : Returned call κs) (e : Ended call κs) → call.allows κs a x e →
     Outcome call (call.given κs a) (call.lent κs a) (call.answer κs x) (call.left κs e)
@@ -46,9 +51,9 @@ write-built : Build packet.write
 write-built = record {
   run = λ g o. (written_of (made g) o.out, record { out = out_after (made g) o.out });
   meets = λ g o. exactly {call = packet.write} ([], ([], tt))
-      (g.0, (g.1.0, (g.1.1.0, (g.1.1.1.0, (g.1.1.1.1.0, (lies g.1.1.1.1.1, (lies o.out, tt)))))))
+      (g.0, (g.1.0, (g.1.1.0, (g.1.1.1.0, (g.1.1.1.1.0, (lies g.1.1.1.1.1, (is-lent-so o.out, tt)))))))
       (written_of (made g) o.out)
-      (g.0, (g.1.0, (g.1.1.0, (g.1.1.1.0, (g.1.1.1.1.0, (lies g.1.1.1.1.1, (lies (out_after (made g) o.out), tt)))))))
+      (g.0, (g.1.0, (g.1.1.0, (g.1.1.1.0, (g.1.1.1.1.0, (lies g.1.1.1.1.1, (is-lent-so (out_after (made g) o.out), tt)))))))
       (record { answer = refl; output = refl });
 }
   where
@@ -59,9 +64,9 @@ header-free-built : Build packet.write_header_free
 header-free-built = record {
   run = λ g o. (written_of (made g) o.out, record { out = out_after (made g) o.out });
   meets = λ g o. exactly {call = packet.write_header_free} ([], ([], tt))
-      (g.0, (lies g.1, (lies o.out, tt)))
+      (g.0, (lies g.1, (is-lent-so o.out, tt)))
       (written_of (made g) o.out)
-      (g.0, (lies g.1, (lies (out_after (made g) o.out), tt)))
+      (g.0, (lies g.1, (is-lent-so (out_after (made g) o.out), tt)))
       (record { answer = refl; output = refl });
 }
   where
@@ -82,9 +87,9 @@ pour-built : Build session.pour
 pour-built = record {
   run = λ s o. (record { answer = written_of (made s) o.out; session = after_pour holding_shape s (written_of (made s) o.out) }, record { out = out_after (made s) o.out });
   meets = λ s o. exactly {call = session.pour} ([], tt)
-      (s, (lies o.out, tt))
+      (s, (is-lent-so o.out, tt))
       (record { answer = written_of (made s) o.out; session = after_pour holding_shape s (written_of (made s) o.out) })
-      (s, (lies (out_after (made s) o.out), tt))
+      (s, (is-lent-so (out_after (made s) o.out), tt))
       (record { answer = refl; output = refl }, refl);
 }
   where
@@ -105,9 +110,9 @@ host-offer-built = record {
     record { place = place g o; rest = record { session = after g o; lost = (count-seen (told g o)).1.count } },
   );
   meets = λ g o. exactly {call = landing.lv_session_offer} ([], ([], ([], ([], tt))))
-      (lies o.rest.session, (g.0, (g.1.0, (g.1.1.0, (lies g.1.1.1, (lies o.rest.lost, (lies o.place, tt)))))))
+      (is-lent-so o.rest.session, (g.0, (g.1.0, (g.1.1.0, (lies g.1.1.1, (is-lent-so o.rest.lost, (is-lent-so o.place, tt)))))))
       (count-seen (told g o)).0
-      (lies (after g o), (g.0, (g.1.0, (g.1.1.0, (lies g.1.1.1, (lies (count-seen (told g o)).1.count, (lies (place g o), tt)))))))
+      (is-lent-so (after g o), (g.0, (g.1.0, (g.1.1.0, (lies g.1.1.1, (is-lent-so (count-seen (told g o)).1.count, (is-lent-so (place g o), tt)))))))
       (told-count (told g o), refl, refl);
 }
   where
@@ -127,9 +132,9 @@ host-pour-built : Build landing.lv_session_pour
 host-pour-built = record {
   run = λ g o. ((write-seen (told o)).0, record { session = after o; out = (write-seen (told o)).1.out; written = (write-seen (told o)).1.written });
   meets = λ g o. exactly {call = landing.lv_session_pour} ([], ([], ([], tt)))
-      (lies o.session, (lies o.out, (lies o.written, tt)))
+      (is-lent-so o.session, (is-lent-so o.out, (is-lent-so o.written, tt)))
       (write-seen (told o)).0
-      (lies (after o), (lies (write-seen (told o)).1.out, (lies (write-seen (told o)).1.written, tt)))
+      (is-lent-so (after o), (is-lent-so (write-seen (told o)).1.out, (is-lent-so (write-seen (told o)).1.written, tt)))
       (told-write (told o), refl);
 }
   where

@@ -126,8 +126,8 @@ module _ (kind : Kind) (r : HasRoom (voice_with kind.table)) where
 
   module _ (g : Sent v capture_form) (s : Session) (x : HoldsExactly s g (all_of g.group.l)) where
     -- has its frames in time order
-    in_time : in_time v s.group ≡ g.group.frames
-    in_time =
+    in_time_lem : in_time v s.group ≡ g.group.frames
+    in_time_lem =
         let p = places_of v r capture_form s g (all_of g.group.l) x in
         ext_get_or no_frame (in_time v s.group) g.group.frames (p.count ∙ sym g.group.many) (λ t h.
         let q = each-place g.group.l g.group.b t (omega (arith, p.count)) in
@@ -138,7 +138,7 @@ module _ (kind : Kind) (r : HasRoom (voice_with kind.table)) where
     pours-all : Leaves (ended holding_shape s) (entries_of g.group.frames) (pouring kind.table s)
     unfolding pouring poured_of
     pours-all =
-        let e : pour_made v s ≡ octets (entries_of g.group.frames) = pours v r s x.still_open x.part.box ∙ ap (λ (fs : List Frame). octets (entries_of fs)) in_time in
+        let e : pour_made v s ≡ octets (entries_of g.group.frames) = pours v r s x.still_open x.part.box ∙ ap (λ (fs : List Frame). octets (entries_of fs)) in_time_lem in
         rw e (record { session = refl; octets = refl })
 
     held-numbers : numbers_of s.group ≡ sent_numbers g.group

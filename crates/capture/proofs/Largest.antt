@@ -34,7 +34,6 @@ use Rattle.frame.specs.Places.{up_to}
 use Rattle.pouring.proofs.PouringLaws.{entries-append}
 use Rattle.answers.specs.declared.Refusal.{Refusal}
 use Rattle.answers.specs.declared.Refusal.TheVariants.{NotApplicable}
-use Rattle.payload.specs.Payload.{packet}
 use Rattle.session.specs.Session.{is_open, refuse, accept, with_group, begins, arrival, offered, pour_made}
 use Rattle.session.specs.Session.{ended, never_opened, fresh, vacant}
 use Rattle.session.proofs.Ends.{Placed, no, again, put, first, next, Ends, refuses, places, offer-ends}

@@ -1,5 +1,5 @@
 -- The run over a capture, step by step. Assumes nothing.
-use Prim.Native.Nat.{ℕ, zero, suc, ◌+◌, ◌-◌, ◌≤◌, ◌<◌}
+use Prim.Native.Nat.{ℕ, zero, suc, ◌+◌, ◌≤◌, ◌<◌}
 use mathlib.Core.Bool.{Bool, true, false}
 use mathlib.Core.Path.{◌≡◌, refl, sym, ap, ap₂, ◌∙◌}
 use mathlib.Core.List.{List, [], ◌∷◌, ◌++◌, append_assoc, append-nil}
@@ -25,7 +25,6 @@ use Rattle.session.specs.Session.{never_opened, vacant, fresh, is_open, pour_mad
 use Rattle.session.specs.declared.Session.{Session}
 use Rattle.session.specs.declared.Offered.{Offered}
 use Rattle.session.specs.declared.Taken.{Taken}
-use Rattle.session.specs.declared.Taken.TheVariants.{Refused}
 use Rattle.frame.proofs.PlacesLaws.{length-upTo, upTo-more, up_to-first}
 use Rattle.frame.proofs.FrameTableLaws.{rows-within, rows-erases}
 use Rattle.capture.specs.Capture.{Heard, count_of, heard_at, packets_in, good}

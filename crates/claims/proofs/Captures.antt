@@ -8,7 +8,6 @@ use lib.ListN.{replicate}
 use borrow.Author.Tests.{eq-eqb}
 use Rattle.frame.specs.Shape.{Voice, holding_shape, voice_with}
 use Rattle.entries.specs.Kind.{Kind}
-use Rattle.answers.specs.Outputs.{octets}
 use Rattle.frame.specs.Places.{up_to}
 use Rattle.form.specs.declared.Form.{Form}
 use Rattle.pouring.specs.Pouring.{in_time}

@@ -1,12 +1,11 @@
 -- What the packets of a capture are answered. Assumes nothing.
-use Prim.Native.Nat.{ℕ, ◌<◌}
+use Prim.Native.Nat.{ℕ}
 use mathlib.Core.Path.{◌≡◌, refl, sym, ap, ◌∙◌}
 use mathlib.Core.List.{List, ◌++◌}
 use mathlib.Core.Bool.{Bool, true, false, cond}
 use lib.ListN.{length, replicate, get_or}
 use lib.Seq.{take-length}
 use Rattle.octets.proofs.Logic.{apart}
-use Rattle.entries.specs.Kind.{Kind}
 use Rattle.answers.specs.declared.Refusal.TheVariants.{NotApplicable}
 use Rattle.session.specs.declared.Taken.{Taken}
 use Rattle.session.specs.declared.Taken.TheVariants.{Refused}

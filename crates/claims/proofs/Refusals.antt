@@ -41,7 +41,7 @@ use Rattle.capture.specs.declared.Outcome.TheVariants as outcome
 use Rattle.lending.specs.Laid.{session_in, session_laid, session_voice}
 use Rattle.lending.specs.Calls.{lay_if, lay_taken, lay_written, open_octets, offer_answer, offer_octets, pour_octets, copy_octets, drop_octets, end_octets, join_octets}
 use Rattle.landing.specs.Host.{taken_after, taken_place, place_after}
-use Rattle.claims.specs.Call.{Outcome, WithPlace}
+use Rattle.claims.specs.Call.{WithPlace}
 use Rattle.claims.specs.Calls.Lent.{LentSessionLost}
 use Rattle.claims.specs.Sessions.{RefusedOfferChangesNothing, AnotherSourceIs10, AnotherSourcesWordsAreNotHeard}
 use Rattle.claims.specs.Refusals.{RefusalsAreNumbered, RefusedAnswer, RefusedOffer, RefusedWriting, RefusedCapture, RattleDemand1, AnotherSource}

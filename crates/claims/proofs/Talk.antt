@@ -35,7 +35,6 @@ use Rattle.pouring.proofs.PouringLaws.{entries-append}
 use Rattle.session.specs.Session.{fresh, group_before, last_numbers, arrival, refuse, pour_made, ended}
 use Rattle.session.specs.declared.Session.{Session}
 use Rattle.session.specs.declared.Offered.{Offered}
-use Rattle.session.specs.declared.Taken.TheVariants.{Refused}
 use Rattle.session.proofs.SessionLaws.{one-held, one-poured, is-refused}
 use Rattle.capture.specs.Capture.{Heard}
 use Rattle.capture.specs.Run.{Step, and_then, capture_form, first_session, poured_of, pouring, is_twelve, run_of, whole_run, entries_recorded, capture_recording}

@@ -1,5 +1,5 @@
 -- What the writers make, check by check. Assumes nothing.
-use Prim.Native.Nat.{ℕ, ◌+◌, ◌*◌, ◌-◌, ◌≤◌, ◌<◌}
+use Prim.Native.Nat.{ℕ, ◌+◌, ◌*◌, ◌≤◌, ◌<◌}
 use mathlib.Core.Path.{◌≡◌, refl, sym, ap, ◌∙◌}
 use mathlib.Core.List.{List, [], ◌∷◌}
 use mathlib.Core.Bool.{Bool, true, false}
@@ -14,7 +14,7 @@ use Rattle.form.specs.Agreed.{opened}
 use Rattle.answers.specs.Outputs.{octets, refused_output}
 use Rattle.form.specs.declared.Limits.{Limits}
 use Rattle.form.specs.declared.Opened.TheVariants as limits
-use Rattle.form.specs.declared.Form.TheVariants.{HeaderFree, Interleaved}
+use Rattle.form.specs.declared.Form.TheVariants.{Interleaved}
 use Rattle.answers.specs.declared.Refusal.{Refusal}
 use Rattle.answers.specs.declared.Refusal.TheVariants.{IndexPastLength, LengthPastMaximum, BundleOutOfRange}
 use Rattle.answers.specs.declared.Refusal.TheVariants.{NotSendable, NotApplicable}

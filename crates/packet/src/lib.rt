@@ -29,7 +29,7 @@ fn pick(
 ) -> usize
     requires { Picked (kind_of vocoder) l n b entries.now × (b ≤ length places.old) }
     ensures value { (result ≡ length (bodies_of (packet_frames l n b (group_in (kind_of vocoder) entries.now)))) × (result ≤ 255 * b) }
-    ensures by_index { (k : ℕ) → k < b
+    ensures places_kept { (k : ℕ) → k < b
         → EntryAt (kind_of vocoder) entries.now (get_or places.new k 0) (frame_at (group_in (kind_of vocoder) entries.now) (place_of l n k)) }
 {
     let mut at: usize = 0;

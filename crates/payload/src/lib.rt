@@ -53,7 +53,7 @@ fn most_entries(max: usize, octets: usize) -> usize
 fn walk(vocoder: Vocoder, max_b: u8, payload: &[u8], sums: &mut [usize]) -> Walked
     requires { max_b ≤ length sums.old }
     ensures value { result ≡ walked (rows_of vocoder) (toc (rows_of vocoder) max_b 0 1 (drop 1 payload.now)) }
-    ensures by_index { (c s d : ℕ) → result ≡ Whole c s d → (i : ℕ) → i < c
+    ensures sums_kept { (c s d : ℕ) → result ≡ Whole c s d → (i : ℕ) → i < c
         → get_or sums.new i 0 ≡ total (rows_of vocoder) (take i (map type_of (drop 1 payload.now))) }
 {
     let most = most_entries(max_b as usize, payload.len());
@@ -112,7 +112,7 @@ fn first_cut(payload: &[u8], count: usize, sums: &[usize]) -> usize
 fn read_within(vocoder: Vocoder, limits: Limits, payload: &[u8], sums: &mut [usize]) -> Contents
     requires { (limits.max_b ≤ 10) × (length sums.old ≡ 10) }
     ensures value { result ≡ contents_of (interleaved (rows_of vocoder) limits payload.now) }
-    ensures i_after { (l n b d : ℕ) → result ≡ Packet l n b d → (i : ℕ) → i < b
+    ensures sums_kept { (l n b d : ℕ) → result ≡ Packet l n b d → (i : ℕ) → i < b
         → get_or sums.new i 0 ≡ total (rows_of vocoder) (take i (map type_of (drop 1 payload.now))) }
 {
     if payload.len() < 1 {
@@ -155,7 +155,7 @@ fn read_interleaved(
 ) -> Contents
     requires { length sums.old ≡ 10 }
     ensures value { result ≡ contents_of (read_as (rows_of vocoder) (Interleaved limits) payload.now) }
-    ensures i_after { (l n b d : ℕ) → result ≡ Packet l n b d → (i : ℕ) → i < b
+    ensures sums_kept { (l n b d : ℕ) → result ≡ Packet l n b d → (i : ℕ) → i < b
         → get_or sums.new i 0 ≡ total (rows_of vocoder) (take i (map type_of (drop 1 payload.now))) }
 {
     let opened = Limits::open(limits.max_l, limits.max_b);

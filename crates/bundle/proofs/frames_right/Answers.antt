@@ -1,7 +1,5 @@
 -- `bundle::frames_right` meets its contract. The invariant: every frame before k keeps the rule.
-use Prim.Native.Nat.{◌-◌}
 use mathlib.Core.Path.{refl, sym, ◌∙◌}
-use mathlib.Core.Bool.{true}
 use native.Mathlib.Omega.{arith}
 use Rattle.octets.specs.Octets.{all_below}
 use Rattle.octets.proofs.Below.{all_more, all-fails, all_done}
@@ -13,7 +11,7 @@ unfolding all_below
 loop-k-init c = (omega arith, refl)
 
 pub frame_right-right-requires : goal.frame_right-right-requires
-frame_right-right-requires c =     
+frame_right-right-requires c =
     (omega arith, c.requires.0, c.requires.1)
 
 pub loop-k-preserved : goal.loop-k-preserved

@@ -4,7 +4,7 @@ use Rattle.bundle.proofs.BundlesLaws.{types-stand, all-erased}
 use Rattle.bundle.proofs.is_not_held.Goals as goal
 
 pub returns-then-erased : goal.returns-then-erased
-returns-then-erased c =     
+returns-then-erased c =
     c.zeros.ensures ∙ all-erased _ _ _ _ c.same-erased.ensures c.if-erased.true c.requires
 
 pub returns-else-erased : goal.returns-else-erased

@@ -18,5 +18,5 @@ pub answer_in-requires : goal.answer_in-requires
 answer_in-requires c = (sym c.is_good-good.ensures ∙ c.if-not-good.false, c.two-count.ensures, c.if-count-i.false)
 
 pub returns : goal.returns
-returns c =     
+returns c =
     told-answer _ _ _ _ (sym c.is_good-good.ensures ∙ c.if-not-good.false) c.answer_in.ensures

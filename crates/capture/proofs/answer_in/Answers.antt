@@ -19,29 +19,29 @@ pub first_standing-standing-requires : goal.first_standing-standing-requires
 first_standing-standing-requires c = omega (arith, c.requires.1, c.requires.2, table-in _ (good-is _ c.requires.0))
 
 pub run_packets-going-requires : goal.run_packets-going-requires
-run_packets-going-requires c =     
+run_packets-going-requires c =
     let first = first-whole _ _ c.requires.1 (not_none c.requires.2) _ c.first_standing-standing.ensures in
     let opened = first-stands _ _ c.requires.1 (not_none c.requires.2) _ c.first_standing-standing.ensures in
     (c.requires.0, c.requires.1, omega (arith, c.requires.2), refl, first, opened)
 
 pub overflow_mul-start : goal.overflow_mul-start
-overflow_mul-start c =     
+overflow_mul-start c =
     omega (arith, c.requires.1, (good-is _ c.requires.0).few)
 
 pub overflow_add-start : goal.overflow_add-start
-overflow_add-start c =     
+overflow_add-start c =
     omega (arith, c.requires.1, (good-is _ c.requires.0).few)
 
 pub payload_octets-requires : goal.payload_octets-requires
-payload_octets-requires c =     
+payload_octets-requires c =
     (omega (arith, c.requires.1, c.requires.2, table-in _ (good-is _ c.requires.0)), omega (arith, c.requires.1, c.requires.2, (good-is _ c.requires.0).few))
 
 pub overflow_add-start-2 : goal.overflow_add-start-2
-overflow_add-start-2 c =     
+overflow_add-start-2 c =
     omega (arith, c.requires.1, c.requires.2, (good-is _ c.requires.0).few, c.payload_octets.ensures.1)
 
 pub step-took-requires : goal.step-took-requires
-step-took-requires c =     
+step-took-requires c =
     let s = start-at _ _ _ _ c.requires.1 c.payload_octets.ensures.0 in
     let t = turn _ c.requires.0 _ _ _ c.requires.1 c.requires.2 s in
     let few : c.args.i ≤ c.args.count = omega (arith, c.requires.2) in
@@ -50,7 +50,7 @@ step-took-requires c =
     (t.row_in, s, t.payload_in, room, c.run_packets-going.ensures.1)
 
 pub returns : goal.returns
-returns c =     
+returns c =
     let first = first-whole _ _ c.requires.1 (not_none c.requires.2) _ c.first_standing-standing.ensures in
     packet-answered capture_kind _ _ _ _ _ c.requires.1 c.requires.2
     (c.run_packets-going.ensures.0.session

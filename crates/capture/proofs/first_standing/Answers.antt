@@ -1,5 +1,4 @@
 -- `capture::first_standing` meets its contract.
-use Rattle.session.specs.Session.{fresh}
 use Rattle.capture.specs.Capture.{heard_at}
 use Rattle.capture.specs.Run.{capture_form}
 use Rattle.capture.proofs.first_standing.Goals as goal

@@ -16,5 +16,5 @@ pub first_standing-standing-requires : goal.first_standing-standing-requires
 first_standing-standing-requires c = omega (arith, c.two-count.ensures, table-in _ (good-is _ c.requires))
 
 pub weigh_packets-going-requires : goal.weigh_packets-going-requires
-weigh_packets-going-requires c =     
+weigh_packets-going-requires c =
     (c.requires, c.two-count.ensures, begun-measured _ _ c.two-count.ensures c.if-count-eq0.false _ c.first_standing-standing.ensures)

@@ -1,5 +1,4 @@
 -- `capture::payload_octets` meets its contract. The invariant: the octets of the first i payloads, at most 65,535 each.
-use Prim.Native.Nat.{◌-◌}
 use mathlib.Core.Path.{◌≡◌, ◌∙◌, ap}
 use native.Mathlib.Omega.{arith}
 use Rattle.capture.specs.Capture.{lengths}
@@ -13,5 +12,5 @@ pub loop-i-preserved : goal.loop-i-preserved
 loop-i-preserved c = (omega arith, (lengths-more _ _ _ _ c.loop-i.invariant.1.0 c.two.ensures, omega arith))
 
 pub returns : goal.returns
-returns c =     let e : c.loop-i.i ≡ c.args.n = omega arith in
+returns c = let e : c.loop-i.i ≡ c.args.n = omega arith in
     (c.loop-i.invariant.1.0 ∙ ap (lengths _) e, omega arith)

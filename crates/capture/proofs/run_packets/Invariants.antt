@@ -11,7 +11,7 @@ use Rattle.capture.specs.Capture.{start_at, heard_at}
 use Rattle.capture.proofs.run_packets.Given as goal
 
 abbrev pub invariant-loop-i : goal.invariant-loop-i
-invariant-loop-i l =     (l.i ≤ l.n)
+invariant-loop-i l = (l.i ≤ l.n)
     × (length l.out ≡ length l.initial.out)
     × (l.start ≡ start_at l.capture l.i)
     × (length l.marks ≡ length l.initial.marks)

@@ -9,7 +9,7 @@ use Rattle.capture.proofs.InPlace.{ready-once, ready-later, stands-poured}
 use Rattle.capture.proofs.step.Goals as goal
 
 pub take_packet-requires : goal.take_packet-requires
-take_packet-requires c =     
+take_packet-requires c =
     let ready = ready-later _ _ _ c.requires.4 _ _ c.decide_packet-decision.ensures _ c.is_later-later.ensures _ c.if-later.true _ _ c.pour_group-poured.ensures in
     let before = whole c.args.going.standing c.args.marks.now c.args.room.now in
     let few = readied-few capture_kind table_fits table-erases before (heard_at c.args.capture.now c.args.i) in
@@ -17,11 +17,11 @@ take_packet-requires c =
     (c.requires.0, c.requires.1, c.requires.2, omega (arith, ready.counted, few, c.requires.3), opened, c.decide_packet-again.ensures)
 
 pub returns-then-later : goal.returns-then-later
-returns-then-later c =     
+returns-then-later c =
     let ready = ready-later _ _ _ c.requires.4 _ _ c.decide_packet-decision.ensures _ c.is_later-later.ensures _ c.if-later.true _ _ c.pour_group-poured.ensures in
     (step-does _ _ _ _ _ _ _ ready _ _ c.take_packet.ensures.0, step-answered _ _ _ _ _ _ _ ready _ c.take_packet.ensures.1)
 
 pub returns : goal.returns
-returns c =     
+returns c =
     let ready = ready-once _ _ _ c.requires.4 _ _ c.decide_packet-decision.ensures _ c.is_later-later.ensures _ c.if-later.false in
     (step-does _ _ _ _ _ _ _ ready _ _ c.take_packet-2.ensures.0, step-answered _ _ _ _ _ _ _ ready _ c.take_packet-2.ensures.1)

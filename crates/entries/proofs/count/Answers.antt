@@ -1,6 +1,5 @@
 -- `entries::count` meets its contract. The invariant: what the walk yields from the entry reached, added to what was counted, is what
 -- the whole walk yields. Assumes nothing.
-use Prim.Native.Nat.{◌-◌}
 use mathlib.Core.Path.{sym, ap, ◌∙◌}
 use native.Mathlib.Omega.{arith}
 use native.Mathlib.Nat.{add-zero}
@@ -14,16 +13,15 @@ pub entries-init : goal.entries-init
 entries-init c = (omega arith, from_start _)
 
 pub entries-preserved : goal.entries-preserved
-entries-preserved c =     
-    (
-      omega arith,
-      sym (ap (counted_from _)
-          (next _ (allowed _ c.args.rule) _ _ c.if-entries-at.false _
-          (sym c.row_of-found.ensures ∙ c.in-Found.is) c.if-entries-start.false
-          (sym c.allows-good.ensures ∙ c.if-good.true))
-          ∙ from-put _ _ _)
-          ∙ c.entries.invariant.1,
-    )
+entries-preserved c = (
+  omega arith,
+  sym (ap (counted_from _)
+      (next _ (allowed _ c.args.rule) _ _ c.if-entries-at.false _
+      (sym c.row_of-found.ensures ∙ c.in-Found.is) c.if-entries-start.false
+      (sym c.allows-good.ensures ∙ c.if-good.true))
+      ∙ from-put _ _ _)
+      ∙ c.entries.invariant.1,
+)
 
 pub returns-then-entries-at : goal.returns-then-entries-at
 unfolding counted_from
@@ -31,7 +29,7 @@ returns-then-entries-at c = sym (ap (counted_from _) (ended _ (allowed _ c.args.
 
 pub returns-in-Missing : goal.returns-in-Missing
 unfolding counted_from
-returns-in-Missing c =     
+returns-in-Missing c =
     sym (ap (counted_from _)
     (not_known _ (allowed _ c.args.rule) _ _ c.if-entries-at.false
     (sym c.row_of-found.ensures ∙ c.in-Missing.is)))
@@ -39,7 +37,7 @@ returns-in-Missing c =
 
 pub returns-then-entries-start : goal.returns-then-entries-start
 unfolding counted_from
-returns-then-entries-start c =     
+returns-then-entries-start c =
     sym (ap (counted_from _)
     (body-cut _ (allowed _ c.args.rule) _ _ c.if-entries-at.false _
     (sym c.row_of-found.ensures ∙ c.in-Found.is) c.if-entries-start.true))
@@ -47,7 +45,7 @@ returns-then-entries-start c =
 
 pub returns-else-good : goal.returns-else-good
 unfolding counted_from
-returns-else-good c =     
+returns-else-good c =
     sym (ap (counted_from _)
     (not-allowed _ (allowed _ c.args.rule) _ _ c.if-entries-at.false _
     (sym c.row_of-found.ensures ∙ c.in-Found.is) c.if-entries-start.false

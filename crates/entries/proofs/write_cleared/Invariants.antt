@@ -9,7 +9,7 @@ use Rattle.entries.specs.Entries.{cleared}
 use Rattle.entries.proofs.write_cleared.Given as goal
 
 abbrev pub invariant-loop-i : goal.invariant-loop-i
-invariant-loop-i l =     (l.i ≤ length l.entries) × (length l.out ≡ length l.initial.out) × (l.out ≡ paste l.initial.out l.at (cleared (kind_of l.vocoder) 0 l.entries) l.i) ×
+invariant-loop-i l = (l.i ≤ length l.entries) × (length l.out ≡ length l.initial.out) × (l.out ≡ paste l.initial.out l.at (cleared (kind_of l.vocoder) 0 l.entries) l.i) ×
     (drop l.i (cleared (kind_of l.vocoder) 0 l.entries) ≡ cleared (kind_of l.vocoder) l.left (drop l.i l.entries))
 
 abbrev pub decreases-loop-i : goal.decreases-loop-i

@@ -1,5 +1,4 @@
 -- `frame::evrc_row` meets its contract: an arm for each row of the table. Assumes nothing.
-use borrow.Author.Tests.{ne_eqb}
 use Rattle.frame.specs.FrameTable.{row_of}
 use Rattle.std.proofs.Common.{arith}
 use Rattle.std.proofs.lemmas.Bool.Decides.{nat_tests}

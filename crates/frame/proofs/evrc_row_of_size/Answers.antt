@@ -1,6 +1,5 @@
 -- `frame::evrc_row_of_size` meets its contract: an arm for each size of the table. Assumes nothing.
 use mathlib.Core.Path.{◌∙◌}
-use borrow.Author.Tests.{ne_eqb}
 use Rattle.frame.specs.FrameTable.{row_of, row_with}
 use Rattle.std.proofs.Common.{arith}
 use Rattle.std.proofs.lemmas.Bool.Decides.{nat_tests}

@@ -11,11 +11,11 @@ pub bounds-set-n : goal.bounds-set-n
 bounds-set-n c = omega (arith, c.loop-n.invariant.0)
 
 pub with_bit-bits-requires : goal.with_bit-bits-requires
-with_bit-bits-requires c =     
+with_bit-bits-requires c =
     bits_below _ _ _ c.loop-n.invariant.1 c.requires c.loop-n-test.true
 
 pub loop-n-preserved : goal.loop-n-preserved
-loop-n-preserved c =     
+loop-n-preserved c =
     (omega (arith, c.loop-n.invariant.0), c.with_bit-bits.ensures ∙ bits-more _ _ _ c.loop-n.invariant.1 c.loop-n-test.true c.loop-n.invariant.0)
 
 pub returns : goal.returns

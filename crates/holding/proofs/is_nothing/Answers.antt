@@ -6,5 +6,5 @@ use Rattle.holding.proofs.GroupLaws.{of_parts}
 use Rattle.holding.proofs.is_nothing.Goals as goal
 
 pub returns : goal.returns
-returns c =     
+returns c =
     c.is_nothing_in.ensures ∙ ap (is_nothing holding_shape) (of_parts _ _ c.numbers_of-numbers.ensures)

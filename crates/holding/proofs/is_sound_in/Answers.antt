@@ -12,7 +12,7 @@ pub returns-then-numbers-lt1 : goal.returns-then-numbers-lt1
 returns-then-numbers-lt1 c source = sound_none _ _ c.if-numbers-gt7.false c.if-numbers-lt1.true
 
 pub returns-then-numbers-gt10 : goal.returns-then-numbers-gt10
-returns-then-numbers-gt10 c source =     
+returns-then-numbers-gt10 c source =
     sound-many _ _ c.if-numbers-gt7.false c.if-numbers-lt1.false c.if-numbers-gt10.true
 
 pub packets_right-requires : goal.packets_right-requires
@@ -21,5 +21,5 @@ packets_right-requires c = search rules
 
 pub returns : goal.returns
 unfolding shape_of
-returns c source =     
+returns c source =
     c.packets_right.ensures ∙ sound-packets _ _ c.if-numbers-gt7.false c.if-numbers-lt1.false c.if-numbers-gt10.false

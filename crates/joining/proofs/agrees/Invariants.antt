@@ -8,7 +8,7 @@ use Rattle.joining.specs.Joining.{agree_in}
 use Rattle.joining.proofs.agrees.Given as goal
 
 abbrev pub invariant-loop-n : goal.invariant-loop-n
-invariant-loop-n l =     (l.n ≤ l.packets) × (all_below (agree_in (shape_of l.vocoder) l.held l.marks l.room l.other_held l.other_marks l.other_room) l.n ≡ true)
+invariant-loop-n l = (l.n ≤ l.packets) × (all_below (agree_in (shape_of l.vocoder) l.held l.marks l.room l.other_held l.other_marks l.other_room) l.n ≡ true)
 
 abbrev pub decreases-loop-n : goal.decreases-loop-n
 decreases-loop-n l = l.packets - l.n

@@ -8,11 +8,11 @@ use Rattle.joining.proofs.holdings_agree.Goals as goal
 
 pub agrees-requires : goal.agrees-requires
 unfolding shape_of
-agrees-requires c =     let a : Shaped holding_shape c.args.a = search rules in
+agrees-requires c = let a : Shaped holding_shape c.args.a = search rules in
     let b : Shaped holding_shape c.args.b = search rules in
     (a, b)
 
 pub returns : goal.returns
 unfolding shape_of
-returns c =     
+returns c =
     c.agrees.ensures ∙ agree-is holding_shape c.args.a c.args.b

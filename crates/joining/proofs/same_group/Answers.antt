@@ -9,13 +9,13 @@ pub returns-then-a-b-2 : goal.returns-then-a-b-2
 returns-then-a-b-2 c = other-sequence _ _ c.if-a-b.false c.if-a-b-2.true
 
 pub returns-then-a-b-3 : goal.returns-then-a-b-3
-returns-then-a-b-3 c =     
+returns-then-a-b-3 c =
     other-timestamp _ _ c.if-a-b.false c.if-a-b-2.false c.if-a-b-3.true
 
 pub returns-then-a-b-4 : goal.returns-then-a-b-4
-returns-then-a-b-4 c =     
+returns-then-a-b-4 c =
     other_length _ _ c.if-a-b.false c.if-a-b-2.false c.if-a-b-3.false c.if-a-b-4.true
 
 pub returns : goal.returns
-returns c =     
+returns c =
     by-bundle _ _ c.if-a-b.false c.if-a-b-2.false c.if-a-b-3.false c.if-a-b-4.false

@@ -1,5 +1,4 @@
 -- `landing::form_named` meets its contract: an arm for each form. Assumes nothing.
-use borrow.Author.Tests.{ne_eqb}
 use Rattle.std.proofs.Common.{arith}
 use Rattle.std.proofs.lemmas.Bool.Decides.{nat_tests}
 use Rattle.landing.proofs.form_named.Goals as goal

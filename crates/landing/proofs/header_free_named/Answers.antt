@@ -10,5 +10,5 @@ returns-in-Refused c = writes-refusal _ _ _ (rw (sym c.form_named-named.ensures 
 
 pub returns-in-Agreed : goal.returns-in-Agreed
 unfolding header_free_named
-returns-in-Agreed c =     
+returns-in-Agreed c =
     writes_as _ _ _ _ _ (rw (sym c.form_named-named.ensures ∙ c.in-Agreed.is)) c.write_header_free.ensures

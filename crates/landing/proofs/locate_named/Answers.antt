@@ -7,5 +7,5 @@ pub returns-in-Refused : goal.returns-in-Refused
 returns-in-Refused c = given-refused _ _ _ (sym c.form_named-named.ensures ∙ c.in-Refused.is) _
 
 pub returns-in-Agreed : goal.returns-in-Agreed
-returns-in-Agreed c =     
+returns-in-Agreed c =
     c.locate.ensures ∙ given-agreed _ _ _ (sym c.form_named-named.ensures ∙ c.in-Agreed.is) _

@@ -4,7 +4,7 @@ use Rattle.landing.proofs.HostLaws.{lost-refused, lost-told}
 use Rattle.landing.proofs.lv_holding_lost.Goals as goal
 
 pub returns-in-Refused : goal.returns-in-Refused
-returns-in-Refused c =     
+returns-in-Refused c =
     lost-refused _ _ _ _ (sym c.in-Refused.is ∙ c.lost_between-found.ensures) c.number.ensures
 
 pub returns-in-Frames : goal.returns-in-Frames

@@ -3,5 +3,5 @@ use Rattle.landing.proofs.HostLaws.{write-told}
 use Rattle.landing.proofs.lv_holding_pour.Goals as goal
 
 pub returns : goal.returns
-returns c =     
+returns c =
     write-told _ _ _ _ _ _ _ c.pour_holding.ensures c.tell_written.ensures

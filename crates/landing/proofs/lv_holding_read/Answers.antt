@@ -4,7 +4,7 @@ use Rattle.landing.proofs.HostLaws.{holding-refused, holding-read}
 use Rattle.landing.proofs.lv_holding_read.Goals as goal
 
 pub returns-in-Refused : goal.returns-in-Refused
-returns-in-Refused c =     
+returns-in-Refused c =
     holding-refused _ _ _ _ _ _ _ _ _ (sym c.in-Refused.is ∙ c.read_holding-described.ensures) c.number.ensures
 
 pub returns-in-Group : goal.returns-in-Group

@@ -3,5 +3,5 @@ use Rattle.landing.proofs.HostLaws.{write-told-at}
 use Rattle.landing.proofs.lv_packet_write.Goals as goal
 
 pub returns : goal.returns
-returns c =     
+returns c =
     write-told-at _ _ _ _ _ _ _ _ _ c.packet_named.ensures c.tell_written_at.ensures

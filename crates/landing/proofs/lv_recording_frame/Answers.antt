@@ -3,5 +3,5 @@ use Rattle.landing.proofs.HostLaws.{frame_on}
 use Rattle.landing.proofs.lv_recording_frame.Goals as goal
 
 pub returns : goal.returns
-returns c =     
+returns c =
     frame_on _ _ _ _ _ _ _ _ _ _ _ c.locate-frame.ensures c.tell_frame.ensures

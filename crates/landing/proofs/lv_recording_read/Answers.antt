@@ -4,7 +4,7 @@ use Rattle.landing.proofs.HostLaws.{count-refused, count-read}
 use Rattle.landing.proofs.lv_recording_read.Goals as goal
 
 pub returns-in-Refused : goal.returns-in-Refused
-returns-in-Refused c =     
+returns-in-Refused c =
     count-refused _ _ _ _ _ _ (sym c.in-Refused.is ∙ c.read-held.ensures) c.tell_refusal.ensures
 
 pub returns-in-Frames : goal.returns-in-Frames

@@ -3,5 +3,5 @@ use Rattle.landing.proofs.HostLaws.{taken-on}
 use Rattle.landing.proofs.lv_session_offer.Goals as goal
 
 pub returns : goal.returns
-returns c =     
+returns c =
     taken-on _ _ _ _ _ _ _ _ _ c.tell_taken.ensures c.offer.ensures

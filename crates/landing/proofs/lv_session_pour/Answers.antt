@@ -3,5 +3,5 @@ use Rattle.landing.proofs.HostLaws.{pour-on}
 use Rattle.landing.proofs.lv_session_pour.Goals as goal
 
 pub returns : goal.returns
-returns c =     
+returns c =
     pour-on _ _ _ _ _ _ _ _ _ c.pour.ensures c.tell_written.ensures

@@ -7,5 +7,5 @@ pub returns-in-Refused : goal.returns-in-Refused
 returns-in-Refused c = read-refused _ _ _ (sym c.form_named-named.ensures ∙ c.in-Refused.is)
 
 pub returns-in-Agreed : goal.returns-in-Agreed
-returns-in-Agreed c =     
+returns-in-Agreed c =
     c.read.ensures ∙ read-agreed _ _ _ (sym c.form_named-named.ensures ∙ c.in-Agreed.is)

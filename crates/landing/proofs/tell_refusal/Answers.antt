@@ -7,5 +7,5 @@ pub returns-in-Nowhere : goal.returns-in-Nowhere
 returns-in-Nowhere c = (c.number.ensures, place_none _ _ (sym c.place-fault.ensures ∙ c.in-Nowhere.is))
 
 pub returns-in-Octet : goal.returns-in-Octet
-returns-in-Octet c =     
+returns-in-Octet c =
     (c.number-in-Octet.ensures, place-there _ _ _ (sym c.place-fault.ensures ∙ c.in-Octet.is))

@@ -6,5 +6,5 @@ pub returns-in-BadCapture : goal.returns-in-BadCapture
 returns-in-BadCapture c = told-bad _ _ _ c.in-BadCapture.is
 
 pub returns-in-Answered : goal.returns-in-Answered
-returns-in-Answered c =     
+returns-in-Answered c =
     told-taken _ _ _ _ _ _ _ c.in-Answered.is c.tell_taken.ensures

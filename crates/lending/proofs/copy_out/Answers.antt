@@ -15,6 +15,6 @@ pub slice_bounds-copy-end : goal.slice_bounds-copy-end
 slice_bounds-copy-end c = omega (arith, session-long _ (open-there _ (group-held _ _ (sym c.has_group-ready.ensures ∙ c.if-not-ready.false)).0))
 
 pub returns : goal.returns
-returns c =     
+returns c =
     let held = sym c.has_group-ready.ensures ∙ c.if-not-ready.false in
     copy_done _ _ _ held _ _ (room-taken _ _ _ c.if-out-lt-OCTETS.false (copied-laid _ _ _ _ (open-there _ (group-held _ _ held).0) c.copy.ensures c.fill.ensures))

@@ -11,11 +11,11 @@ pub standing_at-standing-requires : goal.standing_at-standing-requires
 standing_at-standing-requires c = session-long _ (open-there _ (group-held _ _ (sym c.has_group-ready.ensures ∙ c.if-not-ready.false)).0)
 
 pub put_vacant-requires : goal.put_vacant-requires
-put_vacant-requires c =     
+put_vacant-requires c =
     session-long _ (open-there _ (group-held _ _ (sym c.has_group-ready.ensures ∙ c.if-not-ready.false)).0)
 
 pub returns : goal.returns
-returns c =     
+returns c =
     let held = sym c.has_group-ready.ensures ∙ c.if-not-ready.false in
     let opened = (group-held _ _ held).0 in
     let there = found _ _ _ opened c.standing_at-standing.ensures refl in

@@ -6,5 +6,5 @@ pub returns-then-session-lt-OCTETS : goal.returns-then-session-lt-OCTETS
 returns-then-session-lt-OCTETS c = end_short _ c.if-session-lt-OCTETS.true
 
 pub returns : goal.returns
-returns c =     
+returns c =
     end-done _ _ c.if-session-lt-OCTETS.false c.fill.ensures

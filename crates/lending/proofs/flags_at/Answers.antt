@@ -1,5 +1,4 @@
 -- `lending::flags_at` meets its contract. The invariant: the first i flags are read.
-use Prim.Native.Nat.{◌-◌}
 use mathlib.Core.List.{map}
 use mathlib.Core.Bool.{Bool, false}
 use native.Mathlib.Omega.{arith}
@@ -13,7 +12,7 @@ pub loop-i-init : goal.loop-i-init
 loop-i-init c = (omega arith, (length-replicate {A = Bool} 8 false, paste-zero (replicate 8 false) 0 (map is_set (take 8 (drop c.args.at c.args.lent.now)))))
 
 pub loop-i-preserved : goal.loop-i-preserved
-loop-i-preserved c =     
+loop-i-preserved c =
     (omega arith, (simp length-set c.loop-i.invariant.1.0, flag-more _ _ _ _ c.loop-i.invariant.1.1 c.requires c.loop-i-test.true))
 
 pub returns : goal.returns

@@ -6,5 +6,5 @@ pub returns-then-to-lt-OCTETS : goal.returns-then-to-lt-OCTETS
 returns-then-to-lt-OCTETS c = no_room _ _ c.if-to-lt-OCTETS.true
 
 pub returns : goal.returns
-returns c =     
+returns c =
     room-taken _ _ _ c.if-to-lt-OCTETS.false c.lay_holding.ensures

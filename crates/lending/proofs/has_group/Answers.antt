@@ -9,7 +9,7 @@ pub bounds-lent-43 : goal.bounds-lent-43
 bounds-lent-43 c = omega (arith, session-long _ (open-there _ (sym c.is_open-ready.ensures ∙ c.if-ready.true)))
 
 pub returns-then-ready : goal.returns-then-ready
-returns-then-ready c =     
+returns-then-ready c =
     group-by _ _ _ (sym c.is_open-ready.ensures ∙ c.if-ready.true) (frames-at _ (open-there _ (sym c.is_open-ready.ensures ∙ c.if-ready.true)))
 
 pub returns : goal.returns

@@ -7,10 +7,10 @@ pub returns-then-from-lt-OCTETS : goal.returns-then-from-lt-OCTETS
 returns-then-from-lt-OCTETS c = short_is_none _ c.if-from-lt-OCTETS.true
 
 pub returns-then-same : goal.returns-then-same
-returns-then-same c =     
+returns-then-same c =
     c.zeros.ensures ∙ is-laid _ _ c.if-from-lt-OCTETS.false c.standing_at-standing.ensures _ _ c.marks_at-marks.ensures (c.put_front.ensures _)
     (sym c.same-same.ensures ∙ c.if-same.true)
 
 pub returns : goal.returns
-returns c =     
+returns c =
     not-laid _ _ c.if-from-lt-OCTETS.false c.standing_at-standing.ensures _ _ c.marks_at-marks.ensures (c.put_front.ensures _) (sym c.same-same.ensures ∙ c.if-same.false)

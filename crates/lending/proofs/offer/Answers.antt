@@ -13,24 +13,24 @@ pub standing_at-standing-requires : goal.standing_at-standing-requires
 standing_at-standing-requires c = session-long _ (open-there _ (sym c.is_open-ready.ensures ∙ c.if-not-ready.false))
 
 pub marks_at-marks-requires : goal.marks_at-marks-requires
-marks_at-marks-requires c =     
+marks_at-marks-requires c =
     omega (arith, session-long _ (open-there _ (sym c.is_open-ready.ensures ∙ c.if-not-ready.false)))
 
 pub take_packet-stood-requires : goal.take_packet-stood-requires
-take_packet-stood-requires c =     
+take_packet-stood-requires c =
     let opened = sym c.is_open-ready.ensures ∙ c.if-not-ready.false in
     let there = found _ _ _ opened c.standing_at-standing.ensures c.marks_at-marks.ensures in
     let may = may-take _ _ _ _ there.is opened there.stands.spans _ _ _ _ _ c.decide-decision.ensures in
     (there.long, may.0, may.1)
 
 pub put_session-requires : goal.put_session-requires
-put_session-requires c =     
+put_session-requires c =
     let opened = sym c.is_open-ready.ensures ∙ c.if-not-ready.false in
     let there = found _ _ _ opened c.standing_at-standing.ensures c.marks_at-marks.ensures in
     (omega (arith, there.long, c.take_packet-stood.auto.session), c.take_packet-stood.auto.marks ∙ there.stands.spans.long_marks)
 
 pub returns-in-Refused : goal.returns-in-Refused
-returns-in-Refused c =     
+returns-in-Refused c =
     let opened = sym c.is_open-ready.ensures ∙ c.if-not-ready.false in
     let there = found _ _ _ opened c.standing_at-standing.ensures c.marks_at-marks.ensures in
     let took = offered-of _ _ _ _ there.is opened there.stands.spans _ _ _ _ _ c.decide-decision.ensures _ c.take_packet-stood.ensures.0 in
@@ -38,7 +38,7 @@ returns-in-Refused c =
     offer-refused _ _ _ _ _ _ _ took _ _ c.in-Refused.is (c.take_packet-stood.ensures.1 ∙ same)
 
 pub returns-in-Accepted : goal.returns-in-Accepted
-returns-in-Accepted c =     
+returns-in-Accepted c =
     let opened = sym c.is_open-ready.ensures ∙ c.if-not-ready.false in
     let there = found _ _ _ opened c.standing_at-standing.ensures c.marks_at-marks.ensures in
     let took = offered-of _ _ _ _ there.is opened there.stands.spans _ _ _ _ _ c.decide-decision.ensures _ c.take_packet-stood.ensures.0 in

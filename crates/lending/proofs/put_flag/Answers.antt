@@ -8,5 +8,5 @@ use Rattle.octets.specs.Octets.{over}
 use Rattle.lending.proofs.put_flag.Goals as goal
 
 pub returns : goal.returns
-returns c =     
+returns c =
     set-over _ _ _ (omega arith) ∙ ap (λ (x : ℕ). over c.args.out.now c.args.at (x ∷ [])) c.flag.ensures

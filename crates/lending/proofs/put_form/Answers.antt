@@ -11,9 +11,9 @@ pub bounds-out-at-in-Interleaved-2 : goal.bounds-out-at-in-Interleaved-2
 bounds-out-at-in-Interleaved-2 c = simp length-set (omega arith)
 
 pub returns-in-HeaderFree : goal.returns-in-HeaderFree
-returns-in-HeaderFree c =     
+returns-in-HeaderFree c =
     put-free _ _ _ _ c.in-HeaderFree.is c.fill.ensures
 
 pub returns-in-Interleaved : goal.returns-in-Interleaved
-returns-in-Interleaved c =     
+returns-in-Interleaved c =
     put-interleaved _ _ _ _ c.in-Interleaved.is c.requires

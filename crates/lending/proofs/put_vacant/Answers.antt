@@ -6,5 +6,5 @@ use Rattle.lending.proofs.put_vacant.Goals as goal
 
 pub returns : goal.returns
 unfolding nothing begun
-returns c =     
+returns c =
     around-laid _ _ _ _ (search rules) c.requires _ _ c.fill.ensures c.put_session.ensures

@@ -1,5 +1,5 @@
 -- `octets::copy` meets its contract. The invariant: the first i octets of src stand in dst from `at` on, and nothing else has changed.
-use Rattle.std.proofs.Common.{◌-◌, refl, arith, length-set}
+use Rattle.std.proofs.Common.{refl, arith, length-set}
 use lib.Seq.{paste-zero}
 use Rattle.octets.proofs.OctetsLaws.{copy_more, copy-all}
 use Rattle.octets.proofs.copy.Goals as goal
@@ -8,7 +8,7 @@ pub loop-i-init : goal.loop-i-init
 loop-i-init c = (omega arith, (refl, paste-zero c.args.dst.now c.args.at c.args.src.now))
 
 pub loop-i-preserved : goal.loop-i-preserved
-loop-i-preserved c =     
+loop-i-preserved c =
     let i = c.loop-i.i in
     let inv = c.loop-i.invariant in
     (omega arith, (simp length-set inv.1.0, copy_more c.args.dst.now c.args.at c.args.src.now _ i inv.1.1 c.requires c.loop-i-test.true))

@@ -3,5 +3,5 @@ use Rattle.octets.proofs.OctetsLaws.{put-four-is}
 use Rattle.octets.proofs.put_four.Goals as goal
 
 pub returns : goal.returns
-returns c =     
+returns c =
     put-four-is _ _ _ _ _ c.requires c.put_two.ensures c.put_two-2.ensures

@@ -1,5 +1,5 @@
 -- `packet::pick` meets its contract. The invariant: the octets of the first k bodies, the places of their entries, and how far the entries are gone along. Assumes nothing.
-use Prim.Native.Nat.{◌+◌, ◌-◌}
+use Prim.Native.Nat.{◌+◌}
 use mathlib.Core.Path.{◌≡◌, refl}
 use native.Mathlib.Omega.{arith}
 use lib.ListN.{get_or, length-set}
@@ -16,35 +16,35 @@ unfolding packet_frames up_to
 loop-k-init c = (omega arith, omega arith, refl, refl, λ j q. absurd (omega arith), at_first _ _ _ _)
 
 pub slice_bounds-seek-count : goal.slice_bounds-seek-count
-slice_bounds-seek-count c =     
+slice_bounds-seek-count c =
     (sought _ _ _ _ _ _ _ _ c.requires.0 c.loop-k-test.true c.loop-k.invariant.5).inside
 
 pub slice_bounds-seek-start : goal.slice_bounds-seek-start
-slice_bounds-seek-start c =     
+slice_bounds-seek-start c =
     (sought _ _ _ _ _ _ _ _ c.requires.0 c.loop-k-test.true c.loop-k.invariant.5).inside
 
 pub seek-at-requires : goal.seek-at-requires
-seek-at-requires c =     
+seek-at-requires c =
     (sought _ _ _ _ _ _ _ _ c.requires.0 c.loop-k-test.true c.loop-k.invariant.5).few
 
 pub overflow_add-at : goal.overflow_add-at
-overflow_add-at c =     
+overflow_add-at c =
     omega (arith, (found _ _ _ _ _ _ _ _ c.requires.0 c.loop-k-test.true c.loop-k.invariant.5 _ c.seek-at.ensures).here)
 
 pub offset_bounds-places-k : goal.offset_bounds-places-k
-offset_bounds-places-k c =     
+offset_bounds-places-k c =
     omega (arith, c.requires.0.bundle_small)
 
 pub bounds-places-k : goal.bounds-places-k
-bounds-places-k c =     
+bounds-places-k c =
     omega (arith, c.loop-k.invariant.3, c.requires.1)
 
 pub bounds-entries-at : goal.bounds-entries-at
-bounds-entries-at c =     
+bounds-entries-at c =
     (found _ _ _ _ _ _ _ _ c.requires.0 c.loop-k-test.true c.loop-k.invariant.5 _ c.seek-at.ensures).here
 
 pub overflow_add-size : goal.overflow_add-size
-overflow_add-size c =     
+overflow_add-size c =
     omega (
       arith,
       c.body_size-size.ensures,
@@ -53,11 +53,11 @@ overflow_add-size c =
     )
 
 pub overflow_add-skip : goal.overflow_add-skip
-overflow_add-skip c =     
+overflow_add-skip c =
     omega (arith, c.requires.0.length_small)
 
 pub loop-k-preserved : goal.loop-k-preserved
-loop-k-preserved c =     
+loop-k-preserved c =
     let es = c.args.entries.now in
     let at = c.loop-k.at + c.seek-at.result in
     let x = found _ _ _ _ _ _ _ _ c.requires.0 c.loop-k-test.true c.loop-k.invariant.5 _ c.seek-at.ensures in
@@ -75,9 +75,9 @@ pub shape_of-places : goal.shape_of-places
 shape_of-places c = c.loop-k.invariant.3
 
 pub returns : goal.returns
-returns c =     
+returns c =
     let e : c.loop-k.k ≡ c.args.b = omega arith in
     record {
       value = (rw (← e) c.loop-k.invariant.2, omega arith);
-      by_index = rw (← e) c.loop-k.invariant.4;
+      places_kept = rw (← e) c.loop-k.invariant.4;
     }

@@ -8,5 +8,5 @@ unfolding packet_made
 returns-in-HeaderFree c = writes-refusal _ _ _ (rw c.in-HeaderFree.is)
 
 pub returns-in-Interleaved : goal.returns-in-Interleaved
-returns-in-Interleaved c =     
+returns-in-Interleaved c =
     rw c.in-Interleaved.is c.write_interleaved.ensures

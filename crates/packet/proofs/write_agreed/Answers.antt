@@ -2,5 +2,5 @@
 use Rattle.packet.proofs.write_agreed.Goals as goal
 
 pub returns : goal.returns
-returns c =     
+returns c =
     rw c.agreed.ensures at c.write.ensures

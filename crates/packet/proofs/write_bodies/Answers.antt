@@ -1,5 +1,5 @@
 -- `packet::write_bodies` meets its contract. The invariant: the first k bodies stand in out behind the table of contents. Assumes nothing.
-use Prim.Native.Nat.{ℕ, ◌+◌, ◌-◌, ◌≤◌}
+use Prim.Native.Nat.{ℕ, ◌+◌, ◌≤◌}
 use mathlib.Core.List.{List}
 use mathlib.Core.Path.{◌≡◌, refl, sym, ap, ◌∙◌}
 use native.Mathlib.Omega.{arith}
@@ -18,35 +18,35 @@ overflow_add-to c = omega (arith, c.requires.0)
 
 pub loop-k-init : goal.loop-k-init
 unfolding packet_frames up_to
-loop-k-init c =     
+loop-k-init c =
     (omega arith, refl, omega arith, over_nothing c.args.out.now (1 + c.args.b))
 
 pub offset_bounds-places-k : goal.offset_bounds-places-k
-offset_bounds-places-k c =     
+offset_bounds-places-k c =
     omega (arith, c.requires.1)
 
 pub bounds-places-k : goal.bounds-places-k
-bounds-places-k c =     
+bounds-places-k c =
     omega (arith, c.requires.1)
 
 pub overflow_add-start : goal.overflow_add-start
-overflow_add-start c =     
+overflow_add-start c =
     omega (arith, (c.requires.2 _ c.loop-k-test.true).here)
 
 pub bounds-entries-at : goal.bounds-entries-at
-bounds-entries-at c =     
+bounds-entries-at c =
     (c.requires.2 _ c.loop-k-test.true).here
 
 pub overflow_add-end : goal.overflow_add-end
-overflow_add-end c =     
+overflow_add-end c =
     omega (arith, (c.requires.2 _ c.loop-k-test.true).inside, c.body_size.ensures)
 
 pub slice_bounds-copy-end : goal.slice_bounds-copy-end
-slice_bounds-copy-end c =     
+slice_bounds-copy-end c =
     omega (arith, (c.requires.2 _ c.loop-k-test.true).inside, c.body_size.ensures)
 
 pub copy-requires : goal.copy-requires
-copy-requires c =     
+copy-requires c =
     let es = c.args.entries.now in
     let fs = group_in (kind_of c.args.vocoder) es in
     let x = next-body (kind_of c.args.vocoder) c.args.l c.args.n c.args.b c.loop-k.k es fs _ c.body_size.result
@@ -54,7 +54,7 @@ copy-requires c =
     omega (arith, ap length x.part, x.octets, x.total, x.within, c.loop-k.invariant.1, c.loop-k.invariant.2, c.requires.0)
 
 pub overflow_add-to-in-loop-k : goal.overflow_add-to-in-loop-k
-overflow_add-to-in-loop-k c =     
+overflow_add-to-in-loop-k c =
     let es = c.args.entries.now in
     let fs = group_in (kind_of c.args.vocoder) es in
     let x = next-body (kind_of c.args.vocoder) c.args.l c.args.n c.args.b c.loop-k.k es fs _ c.body_size.result
@@ -62,11 +62,11 @@ overflow_add-to-in-loop-k c =
     omega (arith, x.total, x.within, c.loop-k.invariant.2, c.requires.0)
 
 pub overflow_add-k : goal.overflow_add-k
-overflow_add-k c =     
+overflow_add-k c =
     omega (arith, c.requires.0)
 
 pub loop-k-preserved : goal.loop-k-preserved
-loop-k-preserved c =     
+loop-k-preserved c =
     let es = c.args.entries.now in
     let fs = group_in (kind_of c.args.vocoder) es in
     let x = next-body (kind_of c.args.vocoder) c.args.l c.args.n c.args.b c.loop-k.k es fs _ c.body_size.result
@@ -89,7 +89,7 @@ pub shape_of-out : goal.shape_of-out
 shape_of-out c = c.loop-k.invariant.1
 
 pub returns : goal.returns
-returns c =     
+returns c =
     let e : c.loop-k.k ≡ c.args.b = omega arith in
     c.loop-k.invariant.3
     ∙ ap

@@ -8,7 +8,7 @@ use Rattle.packet.specs.Packet.{packet_frames, bodies_of, group_in}
 use Rattle.packet.proofs.write_bodies.Given as goal
 
 abbrev pub invariant-loop-k : goal.invariant-loop-k
-invariant-loop-k l =     (l.k ≤ l.b) × (length l.out ≡ length l.initial.out) × (l.to ≡ 1 + l.b + length (bodies_of (packet_frames l.l l.n l.k (group_in (kind_of l.vocoder) l.entries)))) ×
+invariant-loop-k l = (l.k ≤ l.b) × (length l.out ≡ length l.initial.out) × (l.to ≡ 1 + l.b + length (bodies_of (packet_frames l.l l.n l.k (group_in (kind_of l.vocoder) l.entries)))) ×
     (l.out ≡ over l.initial.out (1 + l.b) (bodies_of (packet_frames l.l l.n l.k (group_in (kind_of l.vocoder) l.entries))))
 
 abbrev pub decreases-loop-k : goal.decreases-loop-k

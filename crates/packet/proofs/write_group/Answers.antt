@@ -14,20 +14,20 @@ use Rattle.packet.proofs.Numbering.{group-small}
 use Rattle.packet.proofs.write_group.Goals as goal
 
 pub overflow_mul-step : goal.overflow_mul-step
-overflow_mul-step c =     
+overflow_mul-step c =
     omega (arith, group-small c.args.l c.args.b c.requires.0 c.requires.3)
 
 pub returns-then-count-step : goal.returns-then-count-step
-returns-then-count-step c =     
+returns-then-count-step c =
     writes-refusal _ _ _ (group-count _ _ _ _ _ _ (sym c.in-Frames.is ∙ c.count-held.ensures) c.if-count-step.true)
 
 pub pick-requires : goal.pick-requires
-pick-requires c =     
+pick-requires c =
     let g = group-made _ _ c.args.n _ c.args.d _ _ (sym c.in-Frames.is ∙ c.count-held.ensures) c.if-count-step.false in
     (record { length_small = c.requires.0; index_in = c.requires.1; bundle_small = c.requires.3; there = omega (arith, g.count) }, c.requires.3)
 
 pub returns-then-out-size : goal.returns-then-out-size
-returns-then-out-size c =     
+returns-then-out-size c =
     let g = group-made (kind_of c.args.vocoder) c.args.l c.args.n c.args.b c.args.d _ c.args.entries.now
     (sym c.in-Frames.is ∙ c.count-held.ensures) c.if-count-step.false in
     writes-no-room _ _ _ g.made
@@ -38,25 +38,25 @@ returns-then-out-size c =
     ))
 
 pub write_table-requires : goal.write_table-requires
-write_table-requires c =     
+write_table-requires c =
     let p : length c.pick.new.places ≡ 10 = c.pick.auto.places in
-    (c.requires.4, simp length-set (omega (arith, c.pick.ensures.value.1, c.if-out-size.false)), omega (arith, c.requires.3), c.pick.ensures.by_index)
+    (c.requires.4, simp length-set (omega (arith, c.pick.ensures.value.1, c.if-out-size.false)), omega (arith, c.requires.3), c.pick.ensures.places_kept)
 
 pub write_bodies-requires : goal.write_bodies-requires
-write_bodies-requires c =     
+write_bodies-requires c =
     let p : length c.pick.new.places ≡ 10 = c.pick.auto.places in
     let s : length c.write_table.new.out ≡ length c.args.out.now = c.write_table.auto.out ∙ simp length-set in
-    (omega (arith, c.pick.ensures.value.0, c.if-out-size.false), omega (arith, c.requires.3), c.pick.ensures.by_index)
+    (omega (arith, c.pick.ensures.value.0, c.if-out-size.false), omega (arith, c.requires.3), c.pick.ensures.places_kept)
 
 pub returns-in-Refused : goal.returns-in-Refused
 returns-in-Refused c = writes-refusal _ _ _ (group-refused _ _ _ _ _ _ (sym c.in-Refused.is ∙ c.count-held.ensures))
 
 pub shape_of-out : goal.shape_of-out
-shape_of-out c =     
+shape_of-out c =
     c.write_bodies.auto.out ∙ c.write_table.auto.out ∙ simp length-set
 
 pub returns-else-out-size : goal.returns-else-out-size
-returns-else-out-size c =     
+returns-else-out-size c =
     let es = c.args.entries.now in
     let fs = group_in (kind_of c.args.vocoder) es in
     let g = group-made (kind_of c.args.vocoder) c.args.l c.args.n c.args.b c.args.d _ c.args.entries.now

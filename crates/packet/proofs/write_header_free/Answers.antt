@@ -9,5 +9,5 @@ returns-in-Interleaved c = writes-refusal _ _ _ (rw c.in-Interleaved.is)
 
 pub returns-in-HeaderFree : goal.returns-in-HeaderFree
 unfolding header_free_made
-returns-in-HeaderFree c =     
+returns-in-HeaderFree c =
     writes_as _ _ _ _ _ (rw c.in-HeaderFree.is) c.write_body.ensures

@@ -13,9 +13,9 @@ pub returns-then-b-lt1 : goal.returns-then-b-lt1
 returns-then-b-lt1 c = writes-refusal _ _ _ (within_none _ _ _ _ _ _ _ c.if-l-n.false c.if-limits-l.false c.if-b-lt1.true)
 
 pub returns-then-limits-b : goal.returns-then-limits-b
-returns-then-limits-b c =     
+returns-then-limits-b c =
     writes-refusal _ _ _ (within-many _ _ _ _ _ _ _ c.if-l-n.false c.if-limits-l.false c.if-b-lt1.false c.if-limits-b.true)
 
 pub returns : goal.returns
-returns c =     
+returns c =
     writes_as _ _ _ _ _ (within-group _ _ _ _ _ _ _ c.if-l-n.false c.if-limits-l.false c.if-b-lt1.false c.if-limits-b.false) c.write_group.ensures

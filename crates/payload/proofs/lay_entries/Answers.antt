@@ -1,5 +1,5 @@
 -- `payload::lay_entries` meets its contract. The invariant: the first k frames are laid out, and body k begins at `start`.
-use Prim.Native.Nat.{ℕ, ◌-◌, ◌*◌}
+use Prim.Native.Nat.{ℕ, ◌*◌}
 use mathlib.Core.Path.{◌≡◌, sym, ap, ◌∙◌}
 use native.Mathlib.Omega.{arith}
 use lib.ListN.{length, length-set}
@@ -13,39 +13,39 @@ use Rattle.payload.proofs.LayingOut.{none-laid}
 use Rattle.payload.proofs.lay_entries.Goals as goal
 
 pub loop-k-init : goal.loop-k-init
-loop-k-init c =     
+loop-k-init c =
     let h = none-laid _ _ _ c.requires.2 (framesAlong (rows_of c.args.vocoder) c.args.payload.now c.args.b) in
     (omega arith, omega arith, h.0, h.1, h.2)
 
 pub bounds-payload-at : goal.bounds-payload-at
-bounds-payload-at c =     
+bounds-payload-at c =
     let v = rows_of c.args.vocoder in
     let a = along v c.args.payload.now c.args.b c.requires.1 c.loop-k.start c.loop-k.k c.loop-k-test.true c.loop-k.invariant.1 in
     a.entry
 
 pub overflow_add-end : goal.overflow_add-end
-overflow_add-end c =     
+overflow_add-end c =
     let v = rows_of c.args.vocoder in
     let a = along v c.args.payload.now c.args.b c.requires.1 c.loop-k.start c.loop-k.k c.loop-k-test.true c.loop-k.invariant.1 in
     omega (arith, a.inside, c.body_size.ensures)
 
 pub bounds-marks-k : goal.bounds-marks-k
-bounds-marks-k c =     
+bounds-marks-k c =
     omega (arith, c.loop-k.invariant.2, c.requires.0)
 
 pub overflow_mul-cell : goal.overflow_mul-cell
-overflow_mul-cell c =     
+overflow_mul-cell c =
     let r = region-fits c.cell_of-cell.result c.loop-k.k 10 (omega (arith, c.requires.0)) in
     omega (arith, r, c.cell_of-cell.ensures, cell-small c.args.vocoder)
 
 pub slice_bounds-copy-end : goal.slice_bounds-copy-end
-slice_bounds-copy-end c =     
+slice_bounds-copy-end c =
     let v = rows_of c.args.vocoder in
     let a = along v c.args.payload.now c.args.b c.requires.1 c.loop-k.start c.loop-k.k c.loop-k-test.true c.loop-k.invariant.1 in
     omega (arith, a.inside, c.body_size.ensures)
 
 pub copy-requires : goal.copy-requires
-copy-requires c =     
+copy-requires c =
     let v = rows_of c.args.vocoder in
     let p = c.args.payload.now in
     let b = c.args.b in
@@ -59,7 +59,7 @@ copy-requires c =
     omega (arith, ap length body, q, r, c.loop-k.invariant.3, short-at z (framesAlong v p b) c.loop-k.k s (omega arith))
 
 pub loop-k-preserved : goal.loop-k-preserved
-loop-k-preserved c =     
+loop-k-preserved c =
     let v = rows_of c.args.vocoder in
     let p = c.args.payload.now in
     let b = c.args.b in
@@ -77,16 +77,16 @@ loop-k-preserved c =
     )
 
 pub shape_of-marks : goal.shape_of-marks
-shape_of-marks c =     
+shape_of-marks c =
     let h = none-laid _ _ _ c.requires.2 (framesAlong (rows_of c.args.vocoder) c.args.payload.now c.args.b) in
     c.loop-k.invariant.2 ∙ sym h.0
 
 pub shape_of-room : goal.shape_of-room
-shape_of-room c =     
+shape_of-room c =
     let h = none-laid _ _ _ c.requires.2 (framesAlong (rows_of c.args.vocoder) c.args.payload.now c.args.b) in
     c.loop-k.invariant.3 ∙ sym h.1
 
 pub returns : goal.returns
-returns c =     
+returns c =
     let few = many-along (rows_of c.args.vocoder) c.args.payload.now c.args.b c.requires.1 in
     laid-all _ (framesAlong (rows_of c.args.vocoder) c.args.payload.now c.args.b) c.loop-k.k _ _ (omega arith) c.loop-k.invariant.4

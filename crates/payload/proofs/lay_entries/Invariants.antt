@@ -9,7 +9,7 @@ use Rattle.payload.proofs.Laying.{framesAlong, before}
 use Rattle.payload.proofs.lay_entries.Given as goal
 
 abbrev pub invariant-loop-k : goal.invariant-loop-k
-invariant-loop-k l =     (l.k ≤ l.b)
+invariant-loop-k l = (l.k ≤ l.b)
     × (l.start ≡ 1 + l.b + before (rows_of l.vocoder) l.payload l.k)
     × (length l.marks ≡ 10)
     × (length l.room ≡ (shape_of l.vocoder).cell * 10)

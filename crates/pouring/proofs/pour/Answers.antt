@@ -11,5 +11,5 @@ pub pour_held-requires : goal.pour_held-requires
 pour_held-requires c = sym c.holds_packet-any.ensures ∙ c.if-not-any.false
 
 pub returns : goal.returns
-returns c =     
+returns c =
     writes_as _ _ _ _ _ (pour-all _ _ (sym c.holds_packet-any.ensures ∙ c.if-not-any.false)) c.pour_held.ensures

@@ -1,6 +1,5 @@
 -- `recording::opens` meets its contract. Assumes nothing.
 use mathlib.Core.Path.{sym}
-use lib.Seq.{length-take-le}
 use Rattle.recording.specs.Recording.{opens_with}
 use Rattle.recording.proofs.Opening.{too_short}
 use Rattle.recording.proofs.opens.Goals as goal

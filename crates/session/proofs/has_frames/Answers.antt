@@ -6,5 +6,5 @@ use Rattle.holding.specs.Group.{bundle_of}
 use Rattle.session.proofs.has_frames.Goals as goal
 
 pub returns : goal.returns
-returns c =     
+returns c =
     c.same_packet_in.ensures ∙ ap (same_bundles (bundle_of holding_shape c.args.marks.now c.args.room.now c.args.n)) c.lay_out-packet.ensures

@@ -6,11 +6,11 @@ pub returns-then-last-gt7 : goal.returns-then-last-gt7
 returns-then-last-gt7 c ms rs = last-long _ _ c.if-standing.true c.if-last-gt7.true
 
 pub returns-then-last-lt1 : goal.returns-then-last-lt1
-returns-then-last-lt1 c ms rs =     
+returns-then-last-lt1 c ms rs =
     last_none _ _ c.if-standing.true c.if-last-gt7.false c.if-last-lt1.true
 
 pub returns-then-standing : goal.returns-then-standing
-returns-then-standing c ms rs =     
+returns-then-standing c ms rs =
     last-bundle _ _ c.if-standing.true c.if-last-gt7.false c.if-last-lt1.false
 
 pub returns : goal.returns

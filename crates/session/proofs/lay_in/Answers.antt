@@ -9,7 +9,7 @@ use Rattle.bundle.specs.declared.Bundle.{Bundle}
 use Rattle.session.proofs.lay_in.Goals as goal
 
 pub returns : goal.returns
-returns c =     
+returns c =
     let ms = c.lay_frames.new.marks in
     let rs = c.lay_frames.new.room in
     let m : length ms ≡ 10 = search rules in

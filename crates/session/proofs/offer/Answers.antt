@@ -8,20 +8,20 @@ pub returns-then-not-ready : goal.returns-then-not-ready
 returns-then-not-ready c = c.refused.ensures ∙ offer-closed _ _ _ _ _ _ (sym c.is_open-ready.ensures ∙ c.if-not-ready.true)
 
 pub slice_bounds-take-end : goal.slice_bounds-take-end
-slice_bounds-take-end c =     
+slice_bounds-take-end c =
     sym c.standing_of-standing.ensures.1.long_marks
 
 pub slice_bounds-take-end-2 : goal.slice_bounds-take-end-2
-slice_bounds-take-end-2 c =     
+slice_bounds-take-end-2 c =
     sym c.standing_of-standing.ensures.1.long_room
 
 pub take-stood-requires : goal.take-stood-requires
-take-stood-requires c =     
+take-stood-requires c =
     let opened = sym c.is_open-ready.ensures ∙ c.if-not-ready.false in
     may-take c.args.session _ _ _ c.standing_of-standing.ensures.0 opened c.standing_of-standing.ensures.1 _ _ _ _ _ c.decide-decision.ensures
 
 pub returns : goal.returns
-returns c =     
+returns c =
     let opened = sym c.is_open-ready.ensures ∙ c.if-not-ready.false in
     offered-of c.args.session _ _ _ c.standing_of-standing.ensures.0 opened c.standing_of-standing.ensures.1 _ _ _ _ _ c.decide-decision.ensures _
     (taken_as_lem _ _ _ _ c.put_together-next.ensures ∙ c.take-stood.ensures)

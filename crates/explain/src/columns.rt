@@ -1,5 +1,9 @@
 // Words on standard output, and numbers in columns.
-use libc::{STDERR_FILENO, STDOUT_FILENO};
+
+// The numbers of the files that a program writes.
+const STDOUT_FILENO: i32 = 1;
+
+const STDERR_FILENO: i32 = 2;
 
 // These words.
 pub(crate) fn say(words: &[u8]) {

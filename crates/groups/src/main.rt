@@ -7,7 +7,11 @@ ghost use Rattle.std.specs.Prelude.{◌<◌};
 use answers::Written;
 use bundle::Bundle;
 use holding::Holding;
-use libc::{STDIN_FILENO, STDOUT_FILENO};
+
+// The numbers of the files that a program reads and writes.
+const STDIN_FILENO: i32 = 0;
+
+const STDOUT_FILENO: i32 = 1;
 
 // A packet of ten full rate frames, its bodies all of octet x.
 fn full(x: u8) -> Bundle {

@@ -4,7 +4,13 @@
 
 use answers::Written;
 use capture::{Fault, Outcome};
-use libc::{STDERR_FILENO, STDIN_FILENO, STDOUT_FILENO};
+
+// The numbers of the three files that a program is given.
+const STDIN_FILENO: i32 = 0;
+
+const STDOUT_FILENO: i32 = 1;
+
+const STDERR_FILENO: i32 = 2;
 
 // A program of this language has no status to tell by: where standard output cannot be written, a line on standard error says so.
 fn say(octets: &[u8]) {

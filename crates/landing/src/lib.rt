@@ -84,8 +84,7 @@ fn locate_named(form: u8, max_l: u8, max_b: u8, payload: &[u8], k: usize) -> Loc
 }
 
 // Reads a payload: 0 and its L, N, B and D; or the refusal's number, and nothing written but its place.
-#[unsafe(no_mangle)]
-pub extern "C" fn lv_payload_read(
+pub fn lv_payload_read(
     form: u8,
     max_l: u8,
     max_b: u8,
@@ -147,8 +146,7 @@ fn tell_frame(
 }
 
 // Frame k of a payload: its type, and its body's start and size in the payload.
-#[unsafe(no_mangle)]
-pub extern "C" fn lv_payload_frame(
+pub fn lv_payload_frame(
     form: u8,
     max_l: u8,
     max_b: u8,
@@ -174,8 +172,7 @@ pub extern "C" fn lv_payload_frame(
 }
 
 // Reads a recording: 0 and its frame count; or the refusal's number, and nothing written but its place.
-#[unsafe(no_mangle)]
-pub extern "C" fn lv_recording_read(recording: &[u8], count: &mut usize, place: &mut usize) -> u8
+pub fn lv_recording_read(recording: &[u8], count: &mut usize, place: &mut usize) -> u8
     ensures { (count_told result count.new
         ≡ count_after (counted_of (recording_read (kind_of Vocoder.Evrc) recording.now)) count.old)
         × (place.new
@@ -192,8 +189,7 @@ pub extern "C" fn lv_recording_read(recording: &[u8], count: &mut usize, place: 
 }
 
 // Frame k of a recording: its type, and its body's start and size in the recording.
-#[unsafe(no_mangle)]
-pub extern "C" fn lv_recording_frame(
+pub fn lv_recording_frame(
     recording: &[u8],
     k: usize,
     kind: &mut u8,
@@ -238,8 +234,7 @@ fn tell_written_at(made: Written, written: &mut usize, place: &mut usize) -> u8
 }
 
 // Writes a recording of entries.
-#[unsafe(no_mangle)]
-pub extern "C" fn lv_recording_write(
+pub fn lv_recording_write(
     entries: &[u8],
     out: &mut [u8],
     written: &mut usize,
@@ -279,8 +274,7 @@ fn packet_named(
 }
 
 // Writes packet n of an interleave group.
-#[unsafe(no_mangle)]
-pub extern "C" fn lv_packet_write(
+pub fn lv_packet_write(
     form: u8,
     max_l: u8,
     max_b: u8,
@@ -317,8 +311,7 @@ fn header_free_named(form: u8, max_l: u8, max_b: u8, entries: &[u8], out: &mut [
 }
 
 // Writes a header-free packet.
-#[unsafe(no_mangle)]
-pub extern "C" fn lv_packet_write_header_free(
+pub fn lv_packet_write_header_free(
     form: u8,
     max_l: u8,
     max_b: u8,
@@ -350,8 +343,7 @@ fn tell_recorded(outcome: Outcome, written: &mut usize) -> u8
 }
 
 // Turns a capture into a recording; 255 for a bad capture.
-#[unsafe(no_mangle)]
-pub extern "C" fn lv_capture_record(capture: &[u8], out: &mut [u8], written: &mut usize) -> u8
+pub fn lv_capture_record(capture: &[u8], out: &mut [u8], written: &mut usize) -> u8
     ensures { write_told result written.new out.new
         ≡ record_after capture_kind capture.now written.old out.old }
 {
@@ -396,13 +388,7 @@ fn tell_told(told: Told, lost: &mut usize, place: &mut usize) -> u8
 }
 
 // What packet i of a capture was answered in the run that lv_capture_record makes; 255 for a bad capture, 21 where there is none.
-#[unsafe(no_mangle)]
-pub extern "C" fn lv_capture_answer(
-    capture: &[u8],
-    i: usize,
-    lost: &mut usize,
-    place: &mut usize,
-) -> u8
+pub fn lv_capture_answer(capture: &[u8], i: usize, lost: &mut usize, place: &mut usize) -> u8
     ensures { (count_told result lost.new ≡ told_after (answer_of capture_kind capture.now i) lost.old)
         × (place.new ≡ place_after (told_place (answer_of capture_kind capture.now i)) place.old) }
 {
@@ -422,14 +408,7 @@ fn open_named(source: u32, form: u8, max_l: u8, max_b: u8, session: &mut [u8]) -
 }
 
 // Opens a session.
-#[unsafe(no_mangle)]
-pub extern "C" fn lv_session_open(
-    source: u32,
-    form: u8,
-    max_l: u8,
-    max_b: u8,
-    session: &mut [u8],
-) -> u8
+pub fn lv_session_open(source: u32, form: u8, max_l: u8, max_b: u8, session: &mut [u8]) -> u8
     ensures { (result ≡ answer_number (open_named (named_form form max_l max_b) source session.old))
         × (session.new ≡ opened_named (named_form form max_l max_b) source session.old) }
 {
@@ -437,8 +416,7 @@ pub extern "C" fn lv_session_open(
 }
 
 // Offers a packet to a session.
-#[unsafe(no_mangle)]
-pub extern "C" fn lv_session_offer(
+pub fn lv_session_offer(
     session: &mut [u8],
     source: u32,
     sequence: u16,
@@ -461,8 +439,7 @@ pub extern "C" fn lv_session_offer(
 }
 
 // Pours the held group of a session, and ends it.
-#[unsafe(no_mangle)]
-pub extern "C" fn lv_session_pour(session: &mut [u8], out: &mut [u8], written: &mut usize) -> u8
+pub fn lv_session_pour(session: &mut [u8], out: &mut [u8], written: &mut usize) -> u8
     ensures { (write_told result written.new out.new
         ≡ write_after (pour_of (session_voice session.old) session.old) written.old out.old)
         × (session.new
@@ -472,8 +449,7 @@ pub extern "C" fn lv_session_pour(session: &mut [u8], out: &mut [u8], written: &
 }
 
 // Copies the held group of a session out.
-#[unsafe(no_mangle)]
-pub extern "C" fn lv_session_copy(session: &[u8], holding: &mut [u8]) -> u8
+pub fn lv_session_copy(session: &[u8], holding: &mut [u8]) -> u8
     ensures { (result ≡ answer_number (copy_answer (session_voice session.now) session.now holding.old))
         × (holding.new ≡ copy_octets (session_voice session.now) session.now holding.old) }
 {
@@ -481,8 +457,7 @@ pub extern "C" fn lv_session_copy(session: &[u8], holding: &mut [u8]) -> u8
 }
 
 // Ends the held group of a session as pouring does, and writes nothing.
-#[unsafe(no_mangle)]
-pub extern "C" fn lv_session_drop(session: &mut [u8]) -> u8
+pub fn lv_session_drop(session: &mut [u8]) -> u8
     ensures { (result ≡ answer_number (drop_answer (session_voice session.old) session.old))
         × (session.new ≡ drop_octets (session_voice session.old) session.old) }
 {
@@ -490,8 +465,7 @@ pub extern "C" fn lv_session_drop(session: &mut [u8]) -> u8
 }
 
 // Ends a session.
-#[unsafe(no_mangle)]
-pub extern "C" fn lv_session_end(session: &mut [u8]) -> u8
+pub fn lv_session_end(session: &mut [u8]) -> u8
     ensures { (result ≡ answer_number (end_answer session.old))
         × (session.new ≡ end_octets session.old) }
 {
@@ -499,8 +473,7 @@ pub extern "C" fn lv_session_end(session: &mut [u8]) -> u8
 }
 
 // Joins two holdings.
-#[unsafe(no_mangle)]
-pub extern "C" fn lv_holding_join(a: &[u8], b: &[u8], out: &mut [u8]) -> u8
+pub fn lv_holding_join(a: &[u8], b: &[u8], out: &mut [u8]) -> u8
     ensures { (result ≡ answer_number (join_answer (holding_voice a.now) a.now b.now out.old))
         × (out.new ≡ join_octets (holding_voice a.now) a.now b.now out.old) }
 {
@@ -508,8 +481,7 @@ pub extern "C" fn lv_holding_join(a: &[u8], b: &[u8], out: &mut [u8]) -> u8
 }
 
 // Pours a holding.
-#[unsafe(no_mangle)]
-pub extern "C" fn lv_holding_pour(holding: &[u8], out: &mut [u8], written: &mut usize) -> u8
+pub fn lv_holding_pour(holding: &[u8], out: &mut [u8], written: &mut usize) -> u8
     ensures { write_told result written.new out.new
         ≡ write_after (pour_held (holding_voice holding.now) holding.now) written.old out.old }
 {
@@ -518,8 +490,7 @@ pub extern "C" fn lv_holding_pour(holding: &[u8], out: &mut [u8], written: &mut 
 
 // What a holding is: 0, and its source, base numbers, L, B and which packets it holds, bit N for packet N; or the refusal's number,
 // and nothing written.
-#[unsafe(no_mangle)]
-pub extern "C" fn lv_holding_read(
+pub fn lv_holding_read(
     holding: &[u8],
     source: &mut u32,
     sequence: &mut u16,
@@ -553,8 +524,7 @@ pub extern "C" fn lv_holding_read(
 
 // The lost frames between the group of one holding and that of a later one: 0 and their number; or the refusal's number, and nothing
 // written.
-#[unsafe(no_mangle)]
-pub extern "C" fn lv_holding_lost(before: &[u8], after: &[u8], lost: &mut usize) -> u8
+pub fn lv_holding_lost(before: &[u8], after: &[u8], lost: &mut usize) -> u8
     ensures { count_told result lost.new
         ≡ lost_after (lost_of (holding_voice before.now) before.now after.now) lost.old }
 {

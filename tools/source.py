@@ -7,6 +7,7 @@ import signal
 import sys
 
 ROOT = os.path.join(os.path.dirname(os.path.abspath(__file__)), "..")
+EXPORTS = "landing_c"  # the crate that exports landing's calls to C, with their contracts: no calls of its own
 signal.signal(signal.SIGPIPE, signal.SIG_DFL)  # a reader that has enough, as head, ends a tool quietly
 
 # A wrong answer: its crate and file, its three headings, and the texts that it changes, as pairs (file, old).

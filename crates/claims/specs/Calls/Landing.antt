@@ -2,8 +2,8 @@
 use Rattle.std.specs.Prelude.{ℕ, List}
 use Rattle.landing.proofs as contracts
 use Rattle.claims.specs.Call.{Call, WithPlace}
-use Rattle.claims.specs.Calls.Lent.{LentCount, LentHolding, LentKindStartSize, LentLNBD, LentLost, LentOut, LentOutWritten}
-use Rattle.claims.specs.Calls.Lent.{LentSession, LentSessionLost, LentSessionOutWritten, LentSourceSequenceTimestampLBHeld}
+use Rattle.claims.specs.Calls.Lent.{LentCount, LentHolding, LentKindStartSize, LentLNBD, LentLost, LentOut, LentOutWritten, LentSession}
+use Rattle.claims.specs.Calls.Lent.{LentSessionLost, LentSessionOutWritten, LentSourceSequenceTimestampLBHeld}
 
 -- lv_payload_read(form: u8, max_l: u8, max_b: u8, payload: &[u8], l: &mut u8, n: &mut u8, b: &mut u8, d: &mut u8, place: &mut usize) -> u8
 abbrev pub lv_payload_read : Call
@@ -19,21 +19,11 @@ lv_payload_read = record {
   Lent = WithPlace LentLNBD;
   lent = λ κs a. record {
     place = a.1.1.1.1.1.1.1.1.0.now;
-    rest = record {
-      l = a.1.1.1.1.0.now;
-      n = a.1.1.1.1.1.0.now;
-      b = a.1.1.1.1.1.1.0.now;
-      d = a.1.1.1.1.1.1.1.0.now;
-    };
+    rest = record { l = a.1.1.1.1.0.now; n = a.1.1.1.1.1.0.now; b = a.1.1.1.1.1.1.0.now; d = a.1.1.1.1.1.1.1.0.now };
   };
   left = λ κs s. record {
     place = s.1.1.1.1.1.1.1.1.0.now;
-    rest = record {
-      l = s.1.1.1.1.0.now;
-      n = s.1.1.1.1.1.0.now;
-      b = s.1.1.1.1.1.1.0.now;
-      d = s.1.1.1.1.1.1.1.0.now;
-    };
+    rest = record { l = s.1.1.1.1.0.now; n = s.1.1.1.1.1.0.now; b = s.1.1.1.1.1.1.0.now; d = s.1.1.1.1.1.1.1.0.now };
   };
 }
 
@@ -137,28 +127,7 @@ lv_packet_write = record {
   Answer = ℕ;
   answer = λ κs x. x;
   Given = ℕ × (ℕ × (ℕ × (ℕ × (ℕ × (ℕ × (ℕ × List ℕ))))));
-  given = λ κs a. (
-    a.0,
-    (
-      a.1.0,
-      (
-        a.1.1.0,
-        (
-          a.1.1.1.0,
-          (
-            a.1.1.1.1.0,
-            (
-              a.1.1.1.1.1.0,
-              (
-                a.1.1.1.1.1.1.0,
-                a.1.1.1.1.1.1.1.0.now,
-              ),
-            ),
-          ),
-        ),
-      ),
-    ),
-  );
+  given = λ κs a. (a.0, (a.1.0, (a.1.1.0, (a.1.1.1.0, (a.1.1.1.1.0, (a.1.1.1.1.1.0, (a.1.1.1.1.1.1.0, a.1.1.1.1.1.1.1.0.now)))))));
   Lent = WithPlace LentOutWritten;
   lent = λ κs a. record {
     place = a.1.1.1.1.1.1.1.1.1.1.0.now;

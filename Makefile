@@ -30,7 +30,7 @@ check:
 	.ci/run
 
 clean:
-	rm -rf target compare/target bench/target
+	rm -rf target compare/target bench/target crates/*/out
 
 help:
 	@echo 'make             prove and build target/staticlib/liblanding.a, if it is missing or older than the sources'

@@ -63,20 +63,23 @@ mkdir tmp
 chmod 777 tmp
 export TMPDIR=$work/tmp
 
-# A copy of what ./record and make need, in the folder tree, with one crate, and stand-ins in tree/bin: rt, which
-# notes its words, takes a second, fails where another one runs, and makes what is in tree/made; apt-get, which is
-# never to be run. Where there is tree/two, rt goes on until another build says that it waits; where there is
+# A copy of what ./record and make need, in the folder tree, with the files of one crate, and stand-ins in tree/bin: rt,
+# which notes its words, takes a second, fails where another one runs, and makes what is in tree/made; apt-get, which
+# is never to be run. Where there is tree/two, rt goes on until another build says that it waits; where there is
 # tree/during, a source changes while it runs.
 make_tree() {
     mkdir -p tree/bin tree/made tree/include
     cp -r "$root"/{record,Makefile,landing_voice.pc.in,crates.txt,tools} tree
     cp "$root/include/landing_voice.h" tree/include
-    (cd "$root" && cp -r --parents crates/octets "$work/tree")
+    (cd "$root" && cp -r --parents crates/octets/{src,specs,proofs} "$work/tree")
+    mkdir tree/crates/{recorder,explain,landing_c}
     cp "$root"/target/bin/{recorder,explain} tree/made
     printf 'an archive' >tree/made/liblanding.a
     cat >tree/bin/rt <<'END'
 #!/bin/sh
-printf '%s\n' "$*" >>words
+crate=${PWD##*/}
+cd ../..
+printf '%s\n' "$* $crate" >>words
 mkdir running || { echo 'rt: NOT PROVED'; exit 1; }
 sleep 1
 tries=0
@@ -85,13 +88,12 @@ while [ -e two ] && [ "$tries" -lt 300 ] && ! grep -qs waiting ../said_one ../sa
     tries=$((tries + 1))
 done
 if [ -e during ]; then rm during && touch crates/octets/src; fi
-mkdir -p target/bin target/staticlib
+mkdir -p "crates/$crate/out"
 case $1 in
-check) cp "made/$2" target/bin ;;
-staticlib) cp made/liblanding.a target/staticlib ;;
+run) cp "made/$crate" "crates/$crate/out" ;;
+lib) cp made/liblanding.a "crates/$crate/out/liblanding_c.a" ;;
 esac
 rmdir running
-echo 'rt: ok'
 END
     printf '#!/bin/sh\ntouch "%s"\n' "$work/installed" >tree/bin/apt-get
     chmod +x tree/bin/*
@@ -108,7 +110,7 @@ few_commands() { # FOLDER BUT..
     local folder=$1 name found
     shift
     mkdir "$folder"
-    for name in env bash sh dirname readlink find touch grep sed sleep mkdir rmdir cat rm cp head tr mktemp chmod \
+    for name in env bash sh dirname readlink find touch grep sed sleep mkdir rmdir cat rm cp tee head tr mktemp chmod \
         chown sync mv uname ls flock make install echo rt apt-get qemu-x86_64-static; do
         found=$(PATH=$work/tree/bin:$PATH type -P "$name")
         if [ -n "$found" ] && [[ " $* " != *" $name "* ]]; then ln -s "$found" "$folder/$name"; fi

@@ -41,7 +41,7 @@ path=$work/tree/bin:$PATH
 n=$'\n'
 building='record: proving and building the explainer .*'
 says 0 "$building${n}record: ok" tree/record --explain "$fault" && same out told && builds 1
-[ "$(cat tree/words)" = 'check explain' ] || wrong "it builds $(cat tree/words)"
+[ "$(cat tree/words)" = 'run explain' ] || wrong "it builds $(cat tree/words)"
 says 0 '' tree/record --explain --build && builds 1
 sleep 1.1 && touch tree/crates.txt
 says 0 "$building${n}record: ok" tree/record --explain --build && builds 2

@@ -49,7 +49,8 @@ end_fault end n = cond (eqb end n) None (cond (leb end n) (OctetsLeft end) (Payl
 
 -- "then its table, per packet source (4), sequence (2), timestamp (4), length (2)"
 unfoldable pub table_fault : List ℕ → Fault
-table_fault c = cond (leb (2 + 12 * count_of c) (length c)) (end_fault (start_at c (count_of c)) (length c)) (TableCut (2 + 12 * count_of c))
+table_fault c =
+    cond (leb (2 + 12 * count_of c) (length c)) (end_fault (start_at c (count_of c)) (length c)) (TableCut (2 + 12 * count_of c))
 
 -- "count (2, at most 256)"
 unfoldable pub count_fault : List ℕ → Fault

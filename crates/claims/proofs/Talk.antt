@@ -268,7 +268,8 @@ module _ (kind : Kind) (r : HasRoom (voice_with kind.table)) where
   unfolding first_session
   first_of a bs = ap (λ (hs : List Heard). first_session (hs ++ heard_whole bs)) (in_order (spoken_packet a) a.numbers.l)
 
-  talk : (a : Spoken) (x : SentAs v capture_form a) (bs : List Spoken) → Each (SentAs v capture_form) bs → InTurn a bs → entries_recorded kind (heard_whole (a ∷ bs)) ≡ entries_of (spoken_from kind a bs)
+  talk : (a : Spoken) (x : SentAs v capture_form a) (bs : List Spoken) → Each (SentAs v capture_form) bs → InTurn a bs →
+      entries_recorded kind (heard_whole (a ∷ bs)) ≡ entries_of (spoken_from kind a bs)
   unfolding entries_recorded whole_run
   talk a x bs xs t =
       let g = x.sent in

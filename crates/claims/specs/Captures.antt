@@ -1,5 +1,6 @@
 -- Document 01, "Capture program": what holds of every capture. Of recordings of any kind.
-use Rattle.std.specs.Prelude.{ℕ, ◌+◌, ◌≤◌, ◌<◌, ◌≡◌, List, [], ◌∷◌, ◌++◌, map, true, false, cond, ◌&&◌, T, eqb, leb, length, take, replicate, get_or}
+use Rattle.std.specs.Prelude.{ℕ, ◌+◌, ◌≤◌, ◌<◌, ◌≡◌, List, [], ◌∷◌, ◌++◌, map, true, false, cond, ◌&&◌, T, eqb, leb, length, take}
+use Rattle.std.specs.Prelude.{replicate, get_or}
 use Rattle.frame.specs.FrameTable.{Frame, single}
 use Rattle.frame.specs.Shape.{Voice, voice_with}
 use Rattle.entries.specs.Kind.{Kind, keeps_types, lists_erasure}

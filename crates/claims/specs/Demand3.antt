@@ -141,7 +141,8 @@ unfoldable pub HostAccepted :
     {writers : Writers} → Build landing.lv_session_offer → WrittenGroup writers → LentOffer → ℕ → List ℕ → Type 0
 HostAccepted offer g o lost [] = Unit {0}
 HostAccepted offer g o lost (n ∷ ns) =
-    ((host_offer offer g o n).0 ≡ 0) × (((host_offer offer g o n).1.rest.lost ≡ lost) × HostAccepted offer g (host_offer offer g o n).1 0 ns)
+    ((host_offer offer g o n).0 ≡ 0)
+    × (((host_offer offer g o n).1.rest.lost ≡ lost) × HostAccepted offer g (host_offer offer g o n).1 0 ns)
 
 -- what `lv_session_pour` answers and leaves
 pub record HostPoured {writers : Writers} (pour : Build landing.lv_session_pour) (g : WrittenGroup writers) (o : List ℕ) (ns : List ℕ)

@@ -287,7 +287,8 @@ pub record MarkedExamples : Type 0 where
   pub as_said : map (λ (r : Row). said r.form r.octets) rows ≡ map (λ (r : Row). r.says) rows
   pub places : map (λ (r : PlaceRow). judged r.octets) place_rows ≡ map (λ (r : PlaceRow). r.says) place_rows
   pub answers : map (answer_of capture_kind four_packets) (from 0 5) ≡ four_answers
-  pub any_rate1 : (p : List ℕ) → length p ≡ 22 → read_as (table_of HeaderFree) HeaderFree p ≡ packet 0 0 0 (record { type = 4; body = p } ∷ [])
+  pub any_rate1 : (p : List ℕ) → length p ≡ 22 →
+      read_as (table_of HeaderFree) HeaderFree p ≡ packet 0 0 0 (record { type = 4; body = p } ∷ [])
   pub bases : (base_sequence 0 1 ≡ 0xFFFF) × (base_timestamp 0 1 ≡ 0xFFFFFF60)
   pub distances : P15
   pub pauses : map (λ (r : PauseRow). after_poured r.poured r.new) pause_rows ≡ map (λ (r : PauseRow). r.decides) pause_rows

@@ -32,7 +32,8 @@ NoErasure fs = (i : ℕ) → i < length fs → is_erasure (frame_at fs i) ≡ fa
 -- "exactly as many erasures stand there as a packet has frames, and no two are neighbours"
 pub record Spread (poured : List Frame) (b : ℕ) : Type 0 where
   pub exactly_b : erasures poured ≡ b
-  pub no_neighbours : (t : ℕ) → t + 1 < length poured → is_erasure (frame_at poured t) ≡ true → is_erasure (frame_at poured (t + 1)) ≡ true → ⊥
+  pub no_neighbours : (t : ℕ) → t + 1 < length poured → is_erasure (frame_at poured t) ≡ true →
+      is_erasure (frame_at poured (t + 1)) ≡ true → ⊥
 
 -- of a group without erasures of its own
 unfoldable pub OneMissingPacket : Type 0

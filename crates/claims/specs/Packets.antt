@@ -1,6 +1,7 @@
 -- Demand 2 (document 01, "Writing packets"): writing and then reading gives back the frames, reading and then writing the octets.
 -- Of entries of any kind; where a claim asks something of the kind, it is a test that is computed, and that of every vocoder passes it.
-use Rattle.std.specs.Prelude.{ℕ, zero, suc, ◌+◌, ◌*◌, ◌≤◌, ◌<◌, ◌≡◌, List, [], ◌∷◌, Bool, true, false, cond, ◌&&◌, T, eqb, ltb, length, drop, get_or}
+use Rattle.std.specs.Prelude.{ℕ, zero, suc, ◌+◌, ◌*◌, ◌≤◌, ◌<◌, ◌≡◌, List, [], ◌∷◌, Bool, true, false, cond, ◌&&◌, T, eqb, ltb, length}
+use Rattle.std.specs.Prelude.{drop, get_or}
 use Rattle.frame.specs.declared.Vocoder.{Vocoder}
 use Rattle.frame.specs.FrameTable.{FrameTable, Frame, row_with, sendable, single, Every}
 use Rattle.frame.specs.Entry.{d_of}

@@ -19,7 +19,8 @@ use Rattle.holding.specs.Group.{is_nothing, held_at, bundle_at}
 use Rattle.bundle.specs.LaidOut.{laid}
 use Rattle.pouring.specs.Pouring.{in_time, poured}
 use Rattle.holding.specs.declared.Holding.{Holding}
-use Rattle.session.specs.Session.{never_opened, fresh, form_right, opened_for, is_open, refuse, accept, last_numbers, begins, arrival, offered}
+use Rattle.session.specs.Session.{never_opened, fresh, form_right, opened_for, is_open, refuse, accept, last_numbers, begins, arrival}
+use Rattle.session.specs.Session.{offered}
 use Rattle.session.specs.declared.Session.{Session}
 use Rattle.session.specs.declared.Taken.TheVariants.{Accepted, Refused}
 

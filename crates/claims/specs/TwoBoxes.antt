@@ -37,7 +37,8 @@ pub record Alike (v : Voice) (s : Session) : Type 0 where
   pub same : (out : List ℕ) → (written_of (pour_made v s) out ≡ written.Refused NoRoom → ⊥) →
       dropped v s ≡ as_poured v s (written_of (pour_made v s) out)
   -- where dropping is refused, it is with 21, and pouring is so too, whatever the room
-  pub refused : (r : Refusal) → (dropped v s).answer ≡ answer.Refused r → (r ≡ NotApplicable) × (pour_made v s ≡ refused_output NotApplicable)
+  pub refused : (r : Refusal) → (dropped v s).answer ≡ answer.Refused r →
+      (r ≡ NotApplicable) × (pour_made v s ≡ refused_output NotApplicable)
 
 -- pouring and dropping leave the same session
 unfoldable pub PourAndDropAlike : Type 0

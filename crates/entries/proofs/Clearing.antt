@@ -70,7 +70,8 @@ module _ (kind : Kind) (es : List ℕ) (i : ℕ) (h : i < length es) where
       let x = split ∙ e ∙ ap (cleared kind (suc l)) after in
       record { here = cc; rest = cc }
 
-  pub clears-octet : (left : ℕ) → drop i (cleared kind 0 es) ≡ cleared kind left (drop i es) → left ≤ 0 → Octet kind es i (kind.type_of (get_or es i 0)) (size kind.table (kind.type_of (get_or es i 0)))
+  pub clears-octet : (left : ℕ) → drop i (cleared kind 0 es) ≡ cleared kind left (drop i es) → left ≤ 0 →
+      Octet kind es i (kind.type_of (get_or es i 0)) (size kind.table (kind.type_of (get_or es i 0)))
   unfolding cleared
   clears-octet zero e p = let x = split ∙ e ∙ ap (cleared kind 0) after in record { here = cc; rest = cc }
   clears-octet (suc l) e p = absurd (omega arith)

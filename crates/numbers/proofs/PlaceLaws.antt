@@ -1,5 +1,6 @@
 -- The place of a packet by its numbers, check by check. Assumes nothing.
-use Rattle.std.proofs.Common.{◌≡◌, ℕ, ◌+◌, ◌*◌, ◌/◌, ◌%◌, ◌<◌, ◌≤◌, Bool, true, false, cond, not, ◌||◌, eqb, ltb, leb, sym, refl, ap, ◌∙◌, mul-le-mul, arith, w32, Fits, ltb-false, le-ltb, lt-ltb, eq-eqb, ne_eqb, eqb-true, le-leb}
+use Rattle.std.proofs.Common.{◌≡◌, ℕ, ◌+◌, ◌*◌, ◌/◌, ◌%◌, ◌<◌, ◌≤◌, Bool, true, false, cond, not, ◌||◌, eqb, ltb, leb, sym, refl, ap, ◌∙◌, mul-le-mul, arith, w32, Fits, ltb-false, le-ltb, lt-ltb}
+use Rattle.std.proofs.Common.{eq-eqb, ne_eqb, eqb-true, le-leb}
 use borrow.Author.Tests.{lt-leb}
 use Rattle.answers.specs.Answers.{number_of}
 use Rattle.answers.specs.declared.Refusal.{Refusal}

@@ -1,5 +1,7 @@
 -- Laws of lists of octets. Assumes nothing.
-use Rattle.std.proofs.Common.{◌≡◌, ℕ, zero, suc, ◌+◌, ◌-◌, ◌*◌, ◌/◌, ◌%◌, ◌<◌, ◌≤◌, Bool, true, false, ◌&&◌, eqb, List, [], ◌∷◌, ◌++◌, map, length, get_or, take, drop, set, replicate, sym, refl, ap, ◌∙◌, ap₂, append_assoc, append-nil, le_refl, add-zero, zero-add, add-one, arith, length-append, length-drop, length-set, take-append-drop, drop_of_length-le, length-take, length-take-le, get_or-drop, take_all, drop-cons, get_or-take, take-take, drop-drop, take_at, take-add, drop_at, eq-eqb, eqb-true}
+use Rattle.std.proofs.Common.{◌≡◌, ℕ, zero, suc, ◌+◌, ◌-◌, ◌*◌, ◌/◌, ◌%◌, ◌<◌, ◌≤◌, Bool, true, false, ◌&&◌, eqb, List, [], ◌∷◌, ◌++◌, map, length, get_or, take, drop, set, replicate, sym, refl, ap}
+use Rattle.std.proofs.Common.{◌∙◌, ap₂, append_assoc, append-nil, le_refl, add-zero, zero-add, add-one, arith, length-append, length-drop, length-set, take-append-drop, drop_of_length-le, length-take}
+use Rattle.std.proofs.Common.{length-take-le, get_or-drop, take_all, drop-cons, get_or-take, take-take, drop-drop, take_at, take-add, drop_at, eq-eqb, eqb-true}
 use native.Mathlib.Nat.{sub-zero, zero-sub, add-sub_cancel_left}
 use lib.ListN.{length-map, length-replicate, get_or-replicate}
 use lib.Seq.{take-nil, take-append-le, drop-append-add, paste, paste-suc}

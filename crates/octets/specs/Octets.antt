@@ -1,5 +1,6 @@
 -- Lists of octets, as the contracts speak of them. Document 01 has no section on these: they are words for its others.
-use Rattle.std.specs.Prelude.{ℕ, zero, suc, ◌+◌, ◌*◌, ◌/◌, ◌%◌, Bool, true, false, ◌&&◌, List, [], ◌∷◌, ◌++◌, length, take, drop, ◌==◌, slice_index}
+use Rattle.std.specs.Prelude.{ℕ, zero, suc, ◌+◌, ◌*◌, ◌/◌, ◌%◌, Bool, true, false, ◌&&◌, List, [], ◌∷◌, ◌++◌, length, take, drop, ◌==◌}
+use Rattle.std.specs.Prelude.{slice_index}
 
 -- d with s written over it from index `at` on
 unfoldable pub over : List ℕ → ℕ → List ℕ → List ℕ

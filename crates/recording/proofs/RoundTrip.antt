@@ -20,7 +20,8 @@ use Rattle.recording.proofs.Opening.{begins-self, begins-split}
 use Rattle.recording.proofs.Answering.{recorded-frames}
 
 -- the frames of entries, written as entries, are read as those frames
-entries-back : (kind : Kind) → T (keeps_types kind) → (ok : Frame → Bool) (at : ℕ) (es : List ℕ) (fs : List Frame) → entries kind ok 0 0 es ≡ frames fs → entries kind ok at 0 (entries_of fs) ≡ frames fs
+entries-back : (kind : Kind) → T (keeps_types kind) → (ok : Frame → Bool) (at : ℕ) (es : List ℕ) (fs : List Frame) → entries kind ok 0 0 es ≡ frames fs →
+    entries kind ok at 0 (entries_of fs) ≡ frames fs
 entries-back kind h ok at es fs e = entries-written kind h ok at fs (entries-listed kind ok es 0 fs e) (entries-ok kind ok es 0 fs e)
 
 pub read-after-write : (kind : Kind) → T (keeps_types kind) → (es : List ℕ) (fs : List Frame) → entries_in kind Any es ≡ frames fs →

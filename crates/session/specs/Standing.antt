@@ -82,13 +82,19 @@ placed_as t g n (verdict.Refused r) = decision.Refused r
 
 -- the numbers of the group of packet N with these, of L and B
 abbrev pub group_numbers : ℕ → ℕ → ℕ → ℕ → ℕ → GroupNumbers
-group_numbers sequence timestamp n l b = record { sequence = base_sequence sequence n; timestamp = base_timestamp timestamp n; l = l; b = b }
+group_numbers sequence timestamp n l b = record {
+  sequence = base_sequence sequence n;
+  timestamp = base_timestamp timestamp n;
+  l = l;
+  b = b;
+}
 
 -- "payload (1 to 9), place"
 unfoldable pub read_decision : Standing → ℕ → ℕ → Reading → Decision
 read_decision t sequence timestamp (refused_payload r) = decision.Refused r
 read_decision t sequence timestamp (packet l n d fs) =
-    placed_as t (group_numbers sequence timestamp n l (length fs)) n (decided (before_of t) (group_numbers sequence timestamp n l (length fs)))
+    placed_as t (group_numbers sequence timestamp n l (length fs)) n
+    (decided (before_of t) (group_numbers sequence timestamp n l (length fs)))
 
 -- what is decided of a packet, of all but the types and bodies: "source (10), payload (1 to 9), place"
 unfoldable pub decision_of : Standing → ℕ → ℕ → ℕ → List ℕ → Decision

@@ -16,7 +16,8 @@ invariant-loop-i l = (l.i ≤ l.n)
     × (l.start ≡ start_at l.capture l.i)
     × (length l.marks ≡ length l.initial.marks)
     × (length l.room ≡ length l.initial.room)
-    × Does (run_of capture_kind (whole l.initial.going.standing l.initial.marks l.initial.room) (up_to (heard_at l.capture) l.i)) l.initial.going.octets l.initial.out (run_in l.going l.marks l.room) l.out
+    × Does (run_of capture_kind (whole l.initial.going.standing l.initial.marks l.initial.room) (up_to (heard_at l.capture) l.i))
+    l.initial.going.octets l.initial.out (run_in l.going l.marks l.room) l.out
     × Stands l.going.standing l.marks l.room
 
 abbrev pub decreases-loop-i : goal.decreases-loop-i

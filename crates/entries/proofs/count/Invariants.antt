@@ -12,7 +12,8 @@ use Rattle.entries.proofs.count.Given as goal
 
 abbrev pub invariant-entries : goal.invariant-entries
 invariant-entries l = (l.n ≤ l.at) ×
-    (counted_from l.n (spec.entries (kind_of l.vocoder) (allowed (rows_of l.vocoder) l.rule) l.at 0 (drop l.at l.entries)) ≡ counted_of (entries_from (kind_of l.vocoder) l.rule l.from (drop l.from l.entries)))
+    (counted_from l.n (spec.entries (kind_of l.vocoder) (allowed (rows_of l.vocoder) l.rule) l.at 0 (drop l.at l.entries))
+    ≡ counted_of (entries_from (kind_of l.vocoder) l.rule l.from (drop l.from l.entries)))
 
 abbrev pub decreases-entries : goal.decreases-entries
 decreases-entries l = length l.entries - l.at

@@ -8,7 +8,9 @@ use Rattle.packet.proofs.Picking.{Reached, Placed}
 use Rattle.packet.proofs.pick.Given as goal
 
 abbrev pub invariant-loop-k : goal.invariant-loop-k
-invariant-loop-k l = (l.k ≤ l.b) × (l.size ≤ 255 * l.k) × (l.size ≡ length (bodies_of (packet_frames l.l l.n l.k (group_in (kind_of l.vocoder) l.entries)))) × (length l.places ≡ length l.initial.places) ×
+invariant-loop-k l =
+    (l.k ≤ l.b) × (l.size ≤ 255 * l.k) ×
+    (l.size ≡ length (bodies_of (packet_frames l.l l.n l.k (group_in (kind_of l.vocoder) l.entries)))) × (length l.places ≡ length l.initial.places) ×
     Placed (kind_of l.vocoder) l.l l.n l.k l.entries l.places × Reached (kind_of l.vocoder) l.l l.n l.k l.entries l.at l.skip
 
 abbrev pub decreases-loop-k : goal.decreases-loop-k

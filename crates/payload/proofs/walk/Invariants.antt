@@ -12,7 +12,8 @@ use Rattle.payload.proofs.walk.Given as goal
 
 abbrev pub invariant-entries : goal.invariant-entries
 invariant-entries l = (l.count ≤ l.max_b) × (l.size ≤ 255 * l.count) ×
-    (walked_from (rows_of l.vocoder) l.count l.size (toc (rows_of l.vocoder) l.max_b l.count (l.count + 1) (drop (l.count + 1) l.payload)) ≡ walked (rows_of l.vocoder) (toc (rows_of l.vocoder) l.max_b 0 1 (drop 1 l.payload)))
+    (walked_from (rows_of l.vocoder) l.count l.size (toc (rows_of l.vocoder) l.max_b l.count (l.count + 1) (drop (l.count + 1) l.payload))
+    ≡ walked (rows_of l.vocoder) (toc (rows_of l.vocoder) l.max_b 0 1 (drop 1 l.payload)))
     × (length l.sums ≡ length l.initial.sums) × (l.size ≡ before (rows_of l.vocoder) l.payload l.count) × Summed (rows_of l.vocoder) l.payload l.count l.sums
 
 abbrev pub decreases-entries : goal.decreases-entries

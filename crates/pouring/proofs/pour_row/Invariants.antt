@@ -10,7 +10,9 @@ use Rattle.pouring.specs.Pouring.{row, row_size}
 use Rattle.pouring.proofs.pour_row.Given as goal
 
 abbrev pub invariant-loop-n : goal.invariant-loop-n
-invariant-loop-n l = (l.n ≤ l.m) × (length l.out ≡ length l.initial.out) × (l.next ≡ l.at + row_size (rows_of l.vocoder) l.marks l.k l.n) × (l.out ≡ over l.initial.out l.at (entries_of (row (voice_of l.vocoder) l.marks l.room l.k l.n)))
+invariant-loop-n l =
+    (l.n ≤ l.m) × (length l.out ≡ length l.initial.out) × (l.next ≡ l.at + row_size (rows_of l.vocoder) l.marks l.k l.n) ×
+    (l.out ≡ over l.initial.out l.at (entries_of (row (voice_of l.vocoder) l.marks l.room l.k l.n)))
 
 abbrev pub decreases-loop-n : goal.decreases-loop-n
 decreases-loop-n l = l.m - l.n

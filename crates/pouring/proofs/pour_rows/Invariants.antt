@@ -10,7 +10,9 @@ use Rattle.pouring.specs.Pouring.{rows, rows_size}
 use Rattle.pouring.proofs.pour_rows.Given as goal
 
 abbrev pub invariant-loop-k : goal.invariant-loop-k
-invariant-loop-k l = (l.k ≤ l.b) × (length l.out ≡ length l.initial.out) × (l.at ≡ rows_size (rows_of l.vocoder) l.marks l.m l.k) × (l.out ≡ over l.initial.out 0 (entries_of (rows (voice_of l.vocoder) l.marks l.room l.m l.k)))
+invariant-loop-k l =
+    (l.k ≤ l.b) × (length l.out ≡ length l.initial.out) × (l.at ≡ rows_size (rows_of l.vocoder) l.marks l.m l.k) ×
+    (l.out ≡ over l.initial.out 0 (entries_of (rows (voice_of l.vocoder) l.marks l.room l.m l.k)))
 
 abbrev pub decreases-loop-k : goal.decreases-loop-k
 decreases-loop-k l = l.b - l.k

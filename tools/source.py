@@ -3,6 +3,7 @@ import collections
 import glob
 import os
 import re
+import shutil
 import signal
 import sys
 
@@ -17,6 +18,13 @@ Answer = collections.namedtuple("Answer", "crate label name calls what on within
 def read(path):
     """The text of a file, of which the path may be given from the root."""
     return open(os.path.join(ROOT, path), encoding="utf-8").read()
+
+
+def copied(room):
+    """A copy of the crates in a folder, with what earlier checks left."""
+    shutil.copytree(os.path.join(ROOT, "crates"), os.path.join(room, "crates"), ignore=shutil.ignore_patterns("must-fail"))
+    shutil.copy(os.path.join(ROOT, "crates.txt"), room)
+    os.mkdir(os.path.join(room, ".git"))  # the top of a checkout
 
 
 def functions(source):

@@ -8,6 +8,9 @@ import signal
 import sys
 
 ROOT = os.path.join(os.path.dirname(os.path.abspath(__file__)), "..")
+# What a check says of a proof that names what the code has no more; and besides, of one that rests on what failed.
+UNNAMED = r"has no `|has no field `|can be named from here"
+UNFIT = UNNAMED + r"|is not in scope|was not admitted|was rejected|was not checked"
 EXPORTS = "landing_c"  # the crate that exports landing's calls to C, with their contracts: no calls of its own
 signal.signal(signal.SIGPIPE, signal.SIG_DFL)  # a reader that has enough, as head, ends a tool quietly
 

@@ -33,7 +33,7 @@ def copied(room):
 def functions(source):
     """Of a file of Rattle: the name, the extent and the text of the body of each function, a method as TYPE::NAME."""
     found, kind = [], None
-    for m in re.finditer(r'^impl (\w+)|^( *)(?:pub(?:\(crate\))? )?(?:extern "C" )?fn (\w+)', source, re.M):
+    for m in re.finditer(r'^impl(?:<.*?>)? (?:\S+ for )?(\w+)|^( *)(?:pub(?:\(crate\))? )?(?:extern "C" )?fn (\w+)', source, re.M):
         if m.group(1):
             kind = m.group(1)
             continue

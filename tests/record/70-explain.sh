@@ -139,7 +139,7 @@ count=0
 while read -r name number; do
     text=$(sed -n "s/^ *case $name: return \"\(.*\)\";/\1/p" "$root/include/landing_voice.h")
     [ "$number" -gt 0 ] || continue
-    grep -qF "        $number => say(b\"$text\")," "$root/crates/explain/src/answer.rt" || wrong "$number is not: $text"
+    grep -qF "        $number => b\"$text\"," "$root/crates/explain/src/answer.rt" || wrong "$number is not: $text"
     count=$((count + 1))
 done <<<"$names"
 [ "$count" -ge 22 ] || wrong "the header has $count refusals"

@@ -1,1 +1,2 @@
 pub mod OutputsLaws
+pub mod Exits

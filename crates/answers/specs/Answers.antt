@@ -1,8 +1,6 @@
 -- Document 01, "Answers by number": the paper's number of each refusal, with those of document 02; and document 02, (i), "Say where the
 -- fault is": its place.
-use Rattle.std.specs.Prelude.{ℕ}
-use Rattle.answers.specs.declared.Place.{Place}
-use Rattle.answers.specs.declared.Place.TheVariants.{Octet, Nowhere}
+use Rattle.std.specs.Prelude.{ℕ, Option, Some, None}
 use Rattle.answers.specs.declared.Refusal.{Refusal}
 use Rattle.answers.specs.declared.Refusal.TheVariants.{
   NoOctet,
@@ -58,27 +56,27 @@ number_of OffTheClock = 24
 
 -- (02, i) "Refusals 4 to 8 of a payload must carry the octet place of the fault"; "Recordings do the same for 5 and 19". Every other
 -- refusal has none
-abbrev pub place_of : Refusal → Place
-place_of NoOctet = Nowhere
-place_of IndexPastLength = Nowhere
-place_of LengthPastMaximum = Nowhere
-place_of (TableCut at) = Octet at
-place_of (ReservedType at) = Octet at
-place_of (TooManyFrames at) = Octet at
-place_of BundleOutOfRange = Nowhere
-place_of (BodiesCut at) = Octet at
-place_of (OctetsLeft at) = Octet at
-place_of HeaderFreeLength = Nowhere
-place_of AnotherSource = Nowhere
-place_of ContradictsGroup = Nowhere
-place_of LaterGroup = Nowhere
-place_of EarlierGroup = Nowhere
-place_of PacketDiffers = Nowhere
-place_of NoRoom = Nowhere
-place_of TooFarAhead = Nowhere
-place_of NotSendable = Nowhere
-place_of WrongOpening = Nowhere
-place_of (BodyCut at) = Octet at
-place_of NotSameGroup = Nowhere
-place_of NotApplicable = Nowhere
-place_of OffTheClock = Nowhere
+abbrev pub place_of : Refusal → Option ℕ
+place_of NoOctet = None
+place_of IndexPastLength = None
+place_of LengthPastMaximum = None
+place_of (TableCut at) = Some at
+place_of (ReservedType at) = Some at
+place_of (TooManyFrames at) = Some at
+place_of BundleOutOfRange = None
+place_of (BodiesCut at) = Some at
+place_of (OctetsLeft at) = Some at
+place_of HeaderFreeLength = None
+place_of AnotherSource = None
+place_of ContradictsGroup = None
+place_of LaterGroup = None
+place_of EarlierGroup = None
+place_of PacketDiffers = None
+place_of NoRoom = None
+place_of TooFarAhead = None
+place_of NotSendable = None
+place_of WrongOpening = None
+place_of (BodyCut at) = Some at
+place_of NotSameGroup = None
+place_of NotApplicable = None
+place_of OffTheClock = None

@@ -1,4 +1,4 @@
-// Answers (document 01, "Answers by number"): the refusals, and what a call answers that writes, or that gives no number.
+// Answers (document 01, "Answers by number"): the refusals. A call answers `Result<.., Refusal>`: one that writes, how many octets.
 #![tactic(auto)]
 
 ghost use Rattle.std.specs.Prelude.{◌≡◌};
@@ -6,7 +6,7 @@ ghost use Rattle.answers.specs.Answers.{number_of, place_of};
 
 // The refusals, each by the number that document 01 or 02 gives it. Those of which document 02, (i), asks it carry the octet place of the
 // fault.
-#[derive(Clone, Copy)]
+#[derive(Clone, Copy, Debug, PartialEq, Eq)]
 pub enum Refusal {
     NoOctet,
     IndexPastLength,
@@ -41,13 +41,6 @@ pub enum Refusal {
     OffTheClock,
 }
 
-// The octet place of a fault, counted from 0; or no octet is at fault.
-#[derive(Clone, Copy)]
-pub enum Place {
-    Octet(usize),
-    Nowhere,
-}
-
 impl Refusal {
     // The number that document 01 or 02 gives the refusal.
     pub fn number(self) -> u8
@@ -59,8 +52,7 @@ impl Refusal {
             Refusal::LengthPastMaximum => 3,
             Refusal::TableCut(_) => 4,
             Refusal::ReservedType(_) => 5,
-            Refusal::TooManyFrames(_) => 6,
-            Refusal::BundleOutOfRange => 6,
+            Refusal::TooManyFrames(_) | Refusal::BundleOutOfRange => 6,
             Refusal::BodiesCut(_) => 7,
             Refusal::OctetsLeft(_) => 8,
             Refusal::HeaderFreeLength => 9,
@@ -80,48 +72,18 @@ impl Refusal {
         }
     }
 
-    // The octet place that the refusal carries, if it has one.
-    pub fn place(self) -> Place
+    // The octet place that the refusal carries, counted from 0, if it has one.
+    pub fn place(self) -> Option<usize>
         ensures { result ≡ place_of self }
     {
         match self {
-            Refusal::NoOctet => Place::Nowhere,
-            Refusal::IndexPastLength => Place::Nowhere,
-            Refusal::LengthPastMaximum => Place::Nowhere,
-            Refusal::TableCut(at) => Place::Octet(at),
-            Refusal::ReservedType(at) => Place::Octet(at),
-            Refusal::TooManyFrames(at) => Place::Octet(at),
-            Refusal::BundleOutOfRange => Place::Nowhere,
-            Refusal::BodiesCut(at) => Place::Octet(at),
-            Refusal::OctetsLeft(at) => Place::Octet(at),
-            Refusal::HeaderFreeLength => Place::Nowhere,
-            Refusal::AnotherSource => Place::Nowhere,
-            Refusal::ContradictsGroup => Place::Nowhere,
-            Refusal::LaterGroup => Place::Nowhere,
-            Refusal::EarlierGroup => Place::Nowhere,
-            Refusal::PacketDiffers => Place::Nowhere,
-            Refusal::NoRoom => Place::Nowhere,
-            Refusal::TooFarAhead => Place::Nowhere,
-            Refusal::NotSendable => Place::Nowhere,
-            Refusal::WrongOpening => Place::Nowhere,
-            Refusal::BodyCut(at) => Place::Octet(at),
-            Refusal::NotSameGroup => Place::Nowhere,
-            Refusal::NotApplicable => Place::Nowhere,
-            Refusal::OffTheClock => Place::Nowhere,
+            Refusal::TableCut(at)
+            | Refusal::ReservedType(at)
+            | Refusal::TooManyFrames(at)
+            | Refusal::BodiesCut(at)
+            | Refusal::OctetsLeft(at)
+            | Refusal::BodyCut(at) => Some(at),
+            _ => None,
         }
     }
-}
-
-// What a call that writes answers: how many octets, or the refusal.
-#[derive(Clone, Copy)]
-pub enum Written {
-    Octets(usize),
-    Refused(Refusal),
-}
-
-// What a call answers that gives no number: done, or the refusal.
-#[derive(Clone, Copy)]
-pub enum Answer {
-    Done,
-    Refused(Refusal),
 }

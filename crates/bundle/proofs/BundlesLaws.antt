@@ -1,4 +1,5 @@
 -- Laws of one packet's frames. Assumes nothing.
+use Rattle.std.proofs.Common.{Some, None}
 use Prim.Native.Nat.{ℕ, zero, suc, ◌+◌, ◌-◌, ◌*◌, ◌≤◌, ◌<◌}
 use mathlib.Core.Bool.{Bool, true, false, ◌&&◌}
 use mathlib.Core.Path.{◌≡◌, refl, sym, ap, ◌∙◌}
@@ -7,13 +8,11 @@ use native.Mathlib.Omega.{arith}
 use lib.ListN.{length, take, drop, get_or, replicate}
 use lib.Seq.{length-take-le}
 use lib.Dec.{T, eqb}
-use borrow.Author.Tests.{lt-ltb, le-ltb}
 use Rattle.octets.specs.Octets.{all_zero, same_octets, region}
 use Rattle.octets.proofs.Logic.{both_false}
 use Rattle.frame.specs.FrameTable.{row_of, known, size, within, erasure}
 use Rattle.frame.specs.Shape.{Shape, Voice, room_of}
 use Rattle.frame.specs.declared.Row.{Row}
-use Rattle.frame.specs.declared.Lookup.TheVariants.{Found, Missing}
 use Rattle.frame.proofs.FrameTableLaws.{size-within, found-known, found-size}
 use Rattle.octets.proofs.Regions.{region-fits, length-region, tail-is}
 use Rattle.bundle.specs.Bundles.{bundle_in, not_held, same_bundles, mark_at, frame_of, may_stand, frame_right}
@@ -54,16 +53,8 @@ module _ (v : Shape) (ms rs : List ℕ) where
 
 -- ---- a frame keeps the rule
 
-pub stands-below : (b k t : ℕ) → k < b → true ≡ may_stand b k t
-unfolding may_stand
-stands-below b k t h = simp (lt-ltb k b h)
-
-pub stands-past : (b k t : ℕ) → b ≤ k → eqb t erasure ≡ may_stand b k t
-unfolding may_stand
-stands-past b k t h = simp (le-ltb k b h)
-
 module _ (v : Voice) (b k : ℕ) (ms rs : List ℕ) where
-  pub mark-missing : row_of v.table (get_or ms k 0) ≡ Missing → false ≡ frame_right v b (bundle_in ms rs) k
+  pub mark-missing : row_of v.table (get_or ms k 0) ≡ None → false ≡ frame_right v b (bundle_in ms rs) k
   unfolding frame_right mark_at
   mark-missing e = simp e
 
@@ -71,7 +62,7 @@ module _ (v : Voice) (b k : ℕ) (ms rs : List ℕ) where
   unfolding frame_right mark_at
   mark-past h = simp (h, both_false (known v.table (get_or ms k 0)))
 
-  pub mark-stands : (r : Row) (t : Bool) (c : ℕ) → c ≡ v.shape.cell → row_of v.table (get_or ms k 0) ≡ Found r → r.octets ≤ v.shape.cell
+  pub mark-stands : (r : Row) (t : Bool) (c : ℕ) → c ≡ v.shape.cell → row_of v.table (get_or ms k 0) ≡ Some r → r.octets ≤ v.shape.cell
       → may_stand b k (get_or ms k 0) ≡ true
       → t ≡ all_zero (take (c * k + c - (c * k + r.octets)) (drop (c * k + r.octets) rs)) → t ≡ frame_right v b (bundle_in ms rs) k
   unfolding frame_right mark_at

@@ -1,13 +1,22 @@
 -- Document 01, "Groups": one packet's frames as a holding has room for them, over any shape and frame table.
-use Rattle.std.specs.Prelude.{ℕ, Bool, ◌&&◌, ◌||◌, List, take, drop, get_or, replicate, eqb, ltb}
+use Rattle.std.specs.Prelude.{ℕ, Bool, ◌&&◌, ◌||◌, List, length, ◌≡◌, take, drop, get_or, replicate, eqb, ltb}
 use Rattle.octets.specs.Octets.{same_octets, all_zero, all_below, region}
 use Rattle.frame.specs.FrameTable.{Frame, known, size, erasure}
 use Rattle.frame.specs.Shape.{Shape, Voice, room_of}
 use Rattle.bundle.specs.declared.Bundle.{Bundle}
+use Rattle.bundle.specs.declared.Cells.{Cells}
 
 -- a packet of these types and bodies
 abbrev pub bundle_in : List ℕ → List ℕ → Bundle
 bundle_in ms rs = record { marks = ms; room = rs }
+
+-- the packet of types and cells that the code has at hand
+abbrev pub as_bundle : Cells → Bundle
+as_bundle c = bundle_in c.marks.now c.room.now
+
+-- as long as a packet's are: ten types, and ten cells
+abbrev pub OfPacket : Shape → Cells → Type 0
+OfPacket shape c = (length c.marks.now ≡ 10) × (length c.room.now ≡ room_of shape)
 
 -- a packet that is not held: "a place not held reads as an erasure", and its room is zero
 unfoldable pub not_held : Shape → Bundle

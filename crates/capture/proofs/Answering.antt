@@ -1,4 +1,5 @@
 -- What the packets of a capture are answered, one after the other. Assumes nothing.
+use Rattle.std.proofs.Common.{Result, Ok, Err}
 use Prim.Native.Nat.{ℕ, zero, suc, ◌+◌, ◌≤◌, ◌<◌}
 use mathlib.Core.Bool.{Bool, true, false, cond}
 use mathlib.Core.Path.{◌≡◌, refl, sym, ap, ap₂, ◌∙◌}
@@ -21,25 +22,21 @@ use Rattle.entries.specs.Kind.{Kind}
 use Rattle.holding.specs.Group.{is_nothing}
 use Rattle.holding.proofs.GroupLaws.{nothing_is}
 use Rattle.pouring.specs.Pouring.{poured}
-use Rattle.session.specs.Session.{is_open, refuse, accept, begins, arrival, offered, pour_made, ended}
+use Rattle.session.specs.Session.{Arrival, Offered, is_open, refuse, accept, begins, arrival, offered, pour_made, ended}
 use Rattle.session.specs.declared.Session.{Session}
-use Rattle.session.specs.declared.Arrival.{Arrival}
-use Rattle.session.specs.declared.Offered.{Offered}
-use Rattle.session.specs.declared.Taken.{Taken}
-use Rattle.session.specs.declared.Taken.TheVariants.{Accepted, Refused}
 use Rattle.session.proofs.Ends.{open-has, group-has, Placed, no, again, put, first, next, Ends, refuses, places, offer-ends}
 use Rattle.frame.proofs.PlacesLaws.{length-upTo, upTo-at}
 use Rattle.capture.specs.Capture.{Heard, count_of, heard_at, packets_in, good}
 use Rattle.capture.specs.Run.{Step, still, and_then, first_session, offered_to, taken_of, offering, poured_of, pouring, is_twelve, readied, step_of}
 use Rattle.capture.specs.Run.{answered_by, run_of, lost_in, whole_run, packet_answered, answer_of}
-use Rattle.capture.specs.declared.Told.TheVariants as told
+use Rattle.capture.specs.Run.{of_good}
 use Rattle.capture.proofs.RunLaws.{run-last}
 
 -- ---- a step answers its one packet
-taken-answers : (kind : Kind) (s t : Session) (a : Taken) → (taken_of kind s t a).answers ≡ a ∷ []
+taken-answers : (kind : Kind) (s t : Session) (a : Result ℕ Refusal) → (taken_of kind s t a).answers ≡ a ∷ []
 unfolding taken_of
-taken-answers kind s t (Accepted lost) = refl
-taken-answers kind s t (Refused r) = refl
+taken-answers kind s t (Ok lost) = refl
+taken-answers kind s t (Err r) = refl
 
 offering-answers : (kind : Kind) (s : Session) (h : Heard) → (offering kind s h).answers ≡ (offered_to kind.table s h).answer ∷ []
 unfolding offering
@@ -70,9 +67,9 @@ offering-octets : (kind : Kind) (s : Session) (h : Heard) → (offering kind s h
 unfolding offering taken_of lost_in
 offering-octets kind s h = go (offered_to kind.table s h).session (offered_to kind.table s h).answer
   where
-    go : (t : Session) (a : Taken) → (taken_of kind s t a).octets ≡ replicate (lost_in a) kind.erasure
-    go t (Accepted lost) = refl
-    go t (Refused r) = refl
+    go : (t : Session) (a : Result ℕ Refusal) → (taken_of kind s t a).octets ≡ replicate (lost_in a) kind.erasure
+    go t (Ok lost) = refl
+    go t (Err r) = refl
 
 pub step-octets : (kind : Kind) (s : Session) (h : Heard) → (step_of kind s h).octets ≡ (readied kind s h).octets ++ replicate (lost_in (answered_by kind s h)) kind.erasure
 unfolding step_of and_then
@@ -96,7 +93,7 @@ module _ (v : FrameTable) (h : Heard) where
       by_place a o (again q e) t = q
       by_place a o (put q k l b e) t = q
       by_place a o (first q p e) t = unlike o _ e refl t
-      by_place a o (next q p lost f g e) t = unlike o _ e refl t
+      by_place a o (next q gp p lost f g e) t = unlike o _ e refl t
 
       go : (o : Offered) → Ends (voice_with v) s h.source h.sequence h.timestamp h.payload o → is_twelve o.answer ≡ true →
           (is_open (voice_with v) s ≡ true) × (is_nothing holding_shape s.group ≡ false)
@@ -138,13 +135,13 @@ module _ (kind : Kind) where
   length-answers s (h ∷ hs) = rw (step-answers kind s h) (ap suc (length-answers (step_of kind s h).session hs))
 
   -- what packet i is answered is what the session before it answers
-  pub run-answered : (s : Session) (hs : List Heard) (i : ℕ) (d : Heard) (e : Taken) → i < length hs →
+  pub run-answered : (s : Session) (hs : List Heard) (i : ℕ) (d : Heard) (e : Result ℕ Refusal) → i < length hs →
       get_or (run_of kind s hs).answers i e ≡ answered_by kind (run_of kind s (take i hs)).session (get_or hs i d)
   unfolding run_of and_then
   run-answered s [] i d e q = absurd (omega arith)
-  run-answered s (h ∷ hs) zero d e q = ap (λ (w : List Taken). get_or (w ++ (run_of kind (step_of kind s h).session hs).answers) 0 e) (step-answers kind s h)
+  run-answered s (h ∷ hs) zero d e q = ap (λ (w : List (Result ℕ Refusal)). get_or (w ++ (run_of kind (step_of kind s h).session hs).answers) 0 e) (step-answers kind s h)
   run-answered s (h ∷ hs) (suc i) d e q =
-      ap (λ (w : List Taken). get_or (w ++ (run_of kind (step_of kind s h).session hs).answers) (suc i) e) (step-answers kind s h)
+      ap (λ (w : List (Result ℕ Refusal)). get_or (w ++ (run_of kind (step_of kind s h).session hs).answers) (suc i) e) (step-answers kind s h)
       ∙ run-answered (step_of kind s h).session hs i d e (le_of_suc-le-suc q)
 
   pub run-recorded : (s : Session) (hs : List Heard) (i : ℕ) (d : Heard) → i < length hs →
@@ -152,7 +149,7 @@ module _ (kind : Kind) where
   unfolding and_then
   run-recorded s hs i d q = rw (add-one i) (ap (λ (gs : List Heard). (run_of kind s gs).octets) (take-suc hs i d q) ∙ ap (λ (a : Step). a.octets) (run-last kind s (take i hs) (get_or hs i d)))
 
-  pub run-never-twelve : (s : Session) (hs : List Heard) (i : ℕ) (e : Taken) → is_twelve e ≡ false → is_twelve (get_or (run_of kind s hs).answers i e) ≡ false
+  pub run-never-twelve : (s : Session) (hs : List Heard) (i : ℕ) (e : Result ℕ Refusal) → is_twelve e ≡ false → is_twelve (get_or (run_of kind s hs).answers i e) ≡ false
   unfolding run_of and_then
   run-never-twelve s [] i e n = n
   run-never-twelve s (h ∷ hs) zero e n = rw (step-answers kind s h) (twelve-never kind s h)
@@ -163,18 +160,18 @@ pub whole-answers : (kind : Kind) (hs : List Heard) → (whole_run kind hs).answ
 unfolding whole_run and_then
 whole-answers kind hs =
     let a = run_of kind (first_session hs) hs in
-    ap (λ (w : List Taken). a.answers ++ w) (pouring-answers kind.table a.session) ∙ append-nil a.answers
+    ap (λ (w : List (Result ℕ Refusal)). a.answers ++ w) (pouring-answers kind.table a.session) ∙ append-nil a.answers
 
-pub packet-is : (kind : Kind) (hs : List Heard) (i : ℕ) → packet_answered kind hs i ≡ get_or (run_of kind (first_session hs) hs).answers i (Refused NotApplicable)
+pub packet-is : (kind : Kind) (hs : List Heard) (i : ℕ) → packet_answered kind hs i ≡ get_or (run_of kind (first_session hs) hs).answers i (Err NotApplicable)
 unfolding packet_answered
-packet-is kind hs i = ap (λ (w : List Taken). get_or w i (Refused NotApplicable)) (whole-answers kind hs)
+packet-is kind hs i = ap (λ (w : List (Result ℕ Refusal)). get_or w i (Err NotApplicable)) (whole-answers kind hs)
 
 -- 21 where there is no packet i
-pub past-answered : (kind : Kind) (hs : List Heard) (i : ℕ) → length hs ≤ i → packet_answered kind hs i ≡ Refused NotApplicable
+pub past-answered : (kind : Kind) (hs : List Heard) (i : ℕ) → length hs ≤ i → packet_answered kind hs i ≡ Err NotApplicable
 past-answered kind hs i h =
     let ws = (run_of kind (first_session hs) hs).answers in
     let k : length ws ≤ i = omega (arith, length-answers kind (first_session hs) hs) in
-    packet-is kind hs i ∙ get_or-eq_default ws (Refused NotApplicable) k
+    packet-is kind hs i ∙ get_or-eq_default ws (Err NotApplicable) k
 
 take-up_to : (f : ℕ → Heard) (n i : ℕ) → i ≤ n → take i (up_to f n) ≡ up_to f i
 unfolding up_to
@@ -184,7 +181,7 @@ take-up_to f n (suc i) h =
     ∙ ap₂ (λ (xs : List Heard) (x : Heard). xs ++ (x ∷ [])) (take-up_to f n i (omega arith)) (upTo-at f n i (f i) (omega arith))
 
 module _ (kind : Kind) (c : List ℕ) where
-  pub packet-answered : (n i : ℕ) (t : Session) (a : Taken) → n ≡ count_of c → i < n →
+  pub packet-answered : (n i : ℕ) (t : Session) (a : Result ℕ Refusal) → n ≡ count_of c → i < n →
       t ≡ (run_of kind (first_session (packets_in c)) (up_to (heard_at c) i)).session → a ≡ answered_by kind t (heard_at c i) →
       a ≡ packet_answered kind (packets_in c) i
   unfolding packets_in
@@ -192,25 +189,17 @@ module _ (kind : Kind) (c : List ℕ) where
       let hs = up_to (heard_at c) (count_of c) in
       let s = first_session hs in
       let k : i < count_of c = omega arith in
-      let y = run-answered kind s hs i (heard_at c i) (Refused NotApplicable) (omega (arith, length-upTo (heard_at c) (count_of c))) in
+      let y = run-answered kind s hs i (heard_at c i) (Err NotApplicable) (omega (arith, length-upTo (heard_at c) (count_of c))) in
       let z : answered_by kind (run_of kind s (take i hs)).session (get_or hs i (heard_at c i)) ≡ answered_by kind t (heard_at c i) =
       ap₂ (λ (u : Session) (g : Heard). answered_by kind u g)
       (ap (λ (gs : List Heard). (run_of kind s gs).session) (take-up_to (heard_at c) (count_of c) i (omega arith)) ∙ sym e)
       (upTo-at (heard_at c) (count_of c) i (heard_at c i) k) in
       x ∙ sym z ∙ sym y ∙ sym (packet-is kind hs i)
 
-  -- by the answer of its last offer
-  pub last-answered : (t : Session) (h : Heard) (u : Session) (o : Offered) → u ≡ (readied kind t h).session → o ≡ offered_to kind.table u h → o.answer ≡ answered_by kind t h
-  last-answered t h u o e q = ap (λ (y : Offered). y.answer) q ∙ ap (λ (z : Session). (offered_to kind.table z h).answer) e
-
-  pub no-packet : (n i : ℕ) → n ≡ count_of c → n ≤ i → Refused NotApplicable ≡ packet_answered kind (packets_in c) i
+  pub no-packet : (n i : ℕ) → n ≡ count_of c → n ≤ i → Err NotApplicable ≡ packet_answered kind (packets_in c) i
   unfolding packets_in
   no-packet n i q h = sym (past-answered kind (packets_in c) i (omega (arith, length-upTo (heard_at c) (count_of c))))
 
-  pub told-bad : (i : ℕ) → good c ≡ false → told.BadCapture ≡ answer_of kind c i
+  pub told-answer : (i : ℕ) (a : Result ℕ Refusal) → good c ≡ true → a ≡ packet_answered kind (packets_in c) i → of_good a ≡ answer_of kind c i
   unfolding answer_of
-  told-bad i e = simp e
-
-  pub told-answer : (i : ℕ) (a : Taken) → good c ≡ true → a ≡ packet_answered kind (packets_in c) i → told.Answered a ≡ answer_of kind c i
-  unfolding answer_of
-  told-answer i a e q = simp e (ap told.Answered q)
+  told-answer i a e q = simp e (ap of_good q)

@@ -1,27 +1,41 @@
 -- A capture's table. Assumes nothing.
+use Rattle.std.proofs.Common.{Ok, Err, is_ok}
 use Prim.Native.Nat.{ℕ, zero, suc, ◌+◌, ◌*◌, ◌≤◌, ◌<◌}
 use mathlib.Core.Bool.{Bool, true, false, cond, ◌&&◌}
 use mathlib.Core.Path.{◌≡◌, refl, sym, ap, ap₂, ◌∙◌}
-use mathlib.Core.List.{List}
+use mathlib.Core.List.{List, map}
 use mathlib.Core.Logic.{⊎_elim}
 use native.Mathlib.Nat.{le_refl, eq-or-lt_of_le, le_of_suc-le-suc}
 use native.Mathlib.Numerals.{add-one}
 use native.Mathlib.Omega.{arith}
-use lib.ListN.{length}
+use lib.ListN.{length, drop, get_or, length-drop}
+use lib.Seq.{length-take-le}
+use Rattle.std.specs.List.{sum, range_with_len}
+use Rattle.std.proofs.lemmas.List.FromFn.{sum_by-map-range_with_len_more}
 use lib.Dec.{eqb, leb}
-use borrow.Author.Tests.{eq-eqb, ne_eqb, eqb-true, le-leb, lt-leb, leb-true, leb-false}
+use borrow.Author.Tests.{ne_eqb, eqb-true, leb-true, leb-false}
 use Rattle.octets.specs.Octets.{two_at}
 use Rattle.octets.proofs.Logic.{both_true}
-use Rattle.capture.specs.Capture.{count_of, length_at, lengths, start_at, end_fault, table_fault, count_fault, fault_of, is_none, good}
-use Rattle.capture.specs.declared.Fault.{Fault}
-use Rattle.capture.specs.declared.Fault.TheVariants.{None, TooLong, NoCount, TooManyPackets, TableCut, PayloadsCut, OctetsLeft}
+use Rattle.capture.specs.declared.Packet.{Packet}
+use Rattle.capture.specs.Capture.{Heard, as_heard, heard_at, count_of, length_at, lengths, start_at, end_fault, table_fault, count_fault, fault_of, good}
+use Rattle.capture.specs.declared.Fault.TheVariants.{TooLong, NoCount, TooManyPackets, TableCut, PayloadsCut, OctetsLeft}
 
 -- ---- the octets of the first payloads
-pub lengths_none : (c : List ℕ) → 0 ≡ lengths c 0
+-- as a sum along the table
+pub lengths-sum : (c : List ℕ) (n : ℕ) → sum (map (length_at c) (range_with_len 0 n)) ≡ lengths c n
 unfolding lengths
-lengths_none c = refl
+lengths-sum c zero = refl
+lengths-sum c (suc n) =
+    ap (λ (k : ℕ). sum (map (length_at c) (range_with_len 0 k))) (sym (add-one n))
+    ∙ sum_by-map-range_with_len_more (λ (x : ℕ). x) (length_at c) 0 n n (omega arith)
+    ∙ ap (λ (s : ℕ). s + length_at c n) (lengths-sum c n)
 
-pub lengths-more : (c : List ℕ) (n s x : ℕ) → s ≡ lengths c n → x ≡ two_at c (2 + 12 * n + 10) → s + x ≡ lengths c (n + 1)
+pub lengths-few : (c : List ℕ) → ((i : ℕ) → get_or c i 0 < 256) → (n : ℕ) → lengths c n ≤ 65535 * n
+unfolding lengths two_at
+lengths-few c h zero = omega arith
+lengths-few c h (suc n) = omega (arith, lengths-few c h n, h (2 + 12 * n + 10), h (2 + 12 * n + 10 + 1))
+
+lengths-more : (c : List ℕ) (n s x : ℕ) → s ≡ lengths c n → x ≡ two_at c (2 + 12 * n + 10) → s + x ≡ lengths c (n + 1)
 unfolding lengths
 lengths-more c n s x e f = rw (add-one n, e, f)
 
@@ -31,57 +45,12 @@ lengths-grow c i zero h = absurd (omega arith)
 lengths-grow c i (suc n) h =
     ⊎_elim (λ (q : i ≡ n). rw q (le_refl _)) (λ (q : i < n). omega (arith, lengths-grow c i n q)) (eq-or-lt_of_le (le_of_suc-le-suc h))
 
--- ---- why octets are no capture: a law for each way out, nested as the tests are
-module _ (c : List ℕ) where
-  pub too_long : 65536 < length c → TooLong ≡ fault_of c
-  unfolding fault_of count_fault table_fault
-  too_long h = simp (lt-leb _ _ h)
-
-  module _ (short : length c ≤ 65536) where
-    pub no-count : length c < 2 → NoCount ≡ fault_of c
-    unfolding fault_of count_fault table_fault
-    no-count h = simp (le-leb _ _ short, lt-leb _ _ h)
-
-    module _ (two : 2 ≤ length c) (n : ℕ) (e : n ≡ count_of c) where
-      pub too_many : 256 < n → TooManyPackets n ≡ fault_of c
-      unfolding fault_of count_fault table_fault
-      too_many h = let k : 256 < count_of c = omega arith in simp (le-leb _ _ short, le-leb _ _ two, lt-leb _ _ k) (ap TooManyPackets e)
-
-      module _ (few : n ≤ 256) where
-        pub table-cut : length c < 2 + 12 * n → TableCut (2 + 12 * n) ≡ fault_of c
-        unfolding fault_of count_fault table_fault
-        table-cut h =
-            let k : count_of c ≤ 256 = omega arith in
-            let l : length c < 2 + 12 * count_of c = omega arith in
-            simp (le-leb _ _ short, le-leb _ _ two, le-leb _ _ k, lt-leb _ _ l) (ap (λ (i : ℕ). TableCut (2 + 12 * i)) e)
-
-        -- behind a whole table the end decides
-        pub by_end : (total : ℕ) → total ≡ lengths c n → 2 + 12 * n ≤ length c → end_fault (2 + 12 * n + total) (length c) ≡ fault_of c
-        unfolding fault_of count_fault table_fault start_at
-        by_end total f h =
-            let k : count_of c ≤ 256 = omega arith in
-            let l : 2 + 12 * count_of c ≤ length c = omega arith in
-            simp (le-leb _ _ short, le-leb _ _ two, le-leb _ _ k, le-leb _ _ l)
-            (ap₂ (λ (i j : ℕ). end_fault (2 + 12 * i + j) (length c)) e (f ∙ ap (lengths c) e))
-
-pub ends-late : (end n : ℕ) → n < end → PayloadsCut end ≡ end_fault end n
-unfolding end_fault
-ends-late end n h = simp (ne_eqb end n (λ (e : end ≡ n). absurd (omega arith)), lt-leb _ _ h)
-
-pub ends-early : (end n : ℕ) → end < n → OctetsLeft end ≡ end_fault end n
-unfolding end_fault
-ends-early end n h = let k : end ≤ n = omega arith in simp (ne_eqb end n (λ (e : end ≡ n). absurd (omega arith)), le-leb _ _ k)
-
-pub ends_there : (end n : ℕ) → end ≤ n → n ≤ end → None ≡ end_fault end n
-unfolding end_fault
-ends_there end n h k = let e : end ≡ n = omega arith in simp (eq-eqb _ _ e)
-
 -- what ends where its octets end has no fault, and nothing else
-end_none : (end n : ℕ) → is_none (end_fault end n) ≡ eqb end n
+end_none : (end n : ℕ) → is_ok (end_fault end n) ≡ eqb end n
 unfolding end_fault
 end_none end n = go (eqb end n) (leb end n)
   where
-    go : (s t : Bool) → is_none (cond s None (cond t (OctetsLeft end) (PayloadsCut end))) ≡ s
+    go : (s t : Bool) → is_ok (cond s (Ok (tt {0})) (cond t (Err (OctetsLeft end)) (Err (PayloadsCut end)))) ≡ s
     go true t = refl
     go false true = refl
     go false false = refl
@@ -100,7 +69,8 @@ good-means c =
   where
     go : (s w m t : Bool) → (w ≡ false → eqb (start_at c (count_of c)) (length c) ≡ false) →
         (t ≡ false → eqb (start_at c (count_of c)) (length c) ≡ false) →
-        is_none (cond s (cond w (cond m (cond t (end_fault (start_at c (count_of c)) (length c)) (TableCut (2 + 12 * count_of c))) (TooManyPackets (count_of c))) NoCount) TooLong)
+        is_ok (cond s (cond w (cond m (cond t (end_fault (start_at c (count_of c)) (length c))
+        (Err (TableCut (2 + 12 * count_of c)))) (Err (TooManyPackets (count_of c)))) (Err NoCount)) (Err TooLong))
         ≡ (s && m && eqb (start_at c (count_of c)) (length c))
     go false w m t h k = refl
     go true false false t h k = refl
@@ -108,10 +78,6 @@ good-means c =
     go true true false t h k = refl
     go true true true false h k = sym (k refl)
     go true true true true h k = end_none _ _
-
-pub good-by : (c : List ℕ) (found known : Fault) → found ≡ fault_of c → found ≡ known → is_none known ≡ good c
-unfolding good
-good-by c found known e k = ap is_none (sym k ∙ e)
 
 -- a capture that is good
 pub record Good (c : List ℕ) : Type 0 where
@@ -143,9 +109,20 @@ pub start_first : (c : List ℕ) (n : ℕ) → n ≡ count_of c → 2 + 12 * n �
 unfolding start_at lengths
 start_first c n e = omega arith
 
-pub start-more : (c : List ℕ) (i s x : ℕ) → s ≡ start_at c i → x ≡ two_at c (2 + 12 * i + 10) → s + x ≡ start_at c (i + 1)
-unfolding start_at
-start-more c i s x e f = let q = lengths-more c i (lengths c i) x refl f in omega arith
+-- the payload of packet i has as many octets as its row says, and the next one starts behind it
+pub payload-long : (c : List ℕ) (i : ℕ) → start_at c i + length_at c i ≤ length c → length (heard_at c i).payload ≡ length_at c i
+unfolding heard_at
+payload-long c i h = length-take-le (length_at c i) (drop (start_at c i) c) (omega (arith, length-drop (start_at c i) c))
+
+module _ (c : List ℕ) (i s : ℕ) (p : Packet) (e : s ≡ start_at c i) (k : s + length_at c i ≤ length c) (h : as_heard p ≡ heard_at c i) where
+  pub payload-is : length p.payload.now ≡ length_at c i
+  payload-is =
+      let j : start_at c i + length_at c i ≤ length c = omega arith in
+      ap (λ (y : Heard). length y.payload) h ∙ payload-long c i j
+
+  pub start-more : s + length p.payload.now ≡ start_at c (i + 1)
+  unfolding start_at
+  start-more = let q = lengths-more c i (lengths c i) (length_at c i) refl refl in omega (arith, payload-is)
 
 -- packet i of a good capture
 pub record Turn (c : List ℕ) (i start : ℕ) : Type 0 where

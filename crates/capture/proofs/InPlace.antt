@@ -1,71 +1,42 @@
 -- The run in place, function by function: each law is a need of one. Assumes nothing.
-use Prim.Native.Nat.{ℕ, ◌+◌, ◌-◌, ◌*◌, ◌≤◌, ◌<◌}
-use mathlib.Core.Bool.{Bool, true, false, cond}
-use mathlib.Core.Path.{◌≡◌, refl, sym, ap, ap₂, subst, ◌∙◌}
+use Rattle.std.proofs.Common.{Result, Ok, Err}
+use Prim.Native.Nat.{ℕ, ◌+◌, ◌-◌, ◌≤◌, ◌<◌}
+use mathlib.Core.Bool.{Bool, true, false}
+use mathlib.Core.Path.{◌≡◌, refl, sym, ap, subst, ◌∙◌}
 use mathlib.Core.List.{List, []}
 use native.Mathlib.Omega.{arith}
-use lib.ListN.{length, take, drop, replicate, length-replicate}
-use lib.Dec.{T, eqb}
-use Rattle.octets.specs.Octets.{over, two_at, four_at}
-use Rattle.octets.proofs.OctetsLaws.{over-whole, part-is}
+use lib.ListN.{length, replicate, length-replicate}
+use lib.Dec.{T}
+use Rattle.octets.specs.Octets.{over}
+use native.Mathlib.Nat.{add-zero}
+use Rattle.octets.proofs.OctetsLaws.{over-whole, over_nothing}
 use Rattle.frame.specs.FrameTable.{FrameTable, Frame, single, erasure}
 use Rattle.frame.proofs.FrameTableLaws.{rows-single}
 use Rattle.frame.specs.Shape.{holding_shape, voice_with}
 use Rattle.form.specs.Agreed.{voice_for}
 use Rattle.entries.specs.Kind.{Kind}
 use Rattle.entries.specs.Entries.{entries_of}
-use Rattle.answers.specs.Answers.{number_of}
 use Rattle.answers.specs.declared.Refusal.{Refusal}
-use Rattle.answers.specs.declared.Refusal.TheVariants.{PacketDiffers}
-use Rattle.numbers.specs.declared.GroupNumbers.{GroupNumbers}
-use Rattle.bundle.specs.Bundles.{same_bundles}
-use Rattle.bundle.specs.LaidOut.{laid}
-use Rattle.holding.specs.Group.{nothing, begun, bundle_at}
+use Rattle.holding.specs.Group.{nothing, begun}
 use Rattle.holding.proofs.GroupLaws.{Sound, sound-has, holds-sound}
 use Rattle.knowledge.proofs.PutLaws.{begun-shaped}
 use Rattle.pouring.specs.Pouring.{rows, rows_size}
 use Rattle.pouring.proofs.PouringLaws.{length-rows}
-use Rattle.session.specs.Session.{vacant, fresh, form_right, refuse, accept, begins, ended}
-use Rattle.session.specs.Standing.{whole, Stands, Fits, frames_of, decided_as, decision_of}
+use Rattle.session.specs.Session.{Offered, vacant, fresh, form_right, ended}
+use Rattle.session.specs.Standing.{whole, Stands, Fits, frames_of, decided_as}
 use Rattle.session.specs.declared.Session.{Session}
 use Rattle.session.specs.declared.Standing.{Standing}
 use Rattle.session.specs.declared.Decision.{Decision}
-use Rattle.session.specs.declared.Decision.TheVariants as decision
-use Rattle.session.specs.declared.Offered.{Offered}
-use Rattle.session.specs.declared.Taken.{Taken}
-use Rattle.session.specs.declared.Taken.TheVariants.{Accepted, Refused}
 use Rattle.session.proofs.Ends.{refused-keeps, fresh-open}
 use Rattle.session.proofs.SessionLaws.{group-holds, pour-vacant, pour-group}
 use Rattle.session.proofs.StandingLaws.{offered-of, Decides, decides-as}
-use Rattle.capture.specs.Capture.{Heard, count_of, start_at, heard_at, length_at, packets_in}
-use Rattle.capture.specs.Run.{capture_form, capture_vocoder, capture_kind, first_session, still, offered_to, taken_of, lost_in, offering, poured_of, pouring, is_twelve, readied, step_of, Put, Does}
-use Rattle.capture.specs.declared.Run.{Run}
+use Rattle.capture.specs.Capture.{Heard, count_of, heard_at, packets_in}
+use Rattle.capture.specs.Run.{Run, capture_form, capture_vocoder, capture_kind, first_session, still, offered_to, taken_of, lost_in, offering, poured_of, pouring, is_twelve, readied, step_of, Put}
+use Rattle.capture.specs.Run.{Does}
 use Rattle.capture.specs.declared.Going.{Going}
 use Rattle.capture.specs.Going.{run_in, DecidesOf}
 use Rattle.capture.proofs.RunLaws.{table_fits, table-erases, first_some, once-ready, later-ready}
 use Rattle.capture.proofs.Staying.{Stays, pour-stays, step_stays}
-
--- ---- whether a decision is a refusal with 12
-module _ (s : Session) (fs : List Frame) (d : Decision) where
-  pub begins-not-later : (g : GroupNumbers) (n lost : ℕ) → d ≡ decision.Begins g n lost → false ≡ is_twelve (decided_as s fs d).answer
-  unfolding decided_as begins accept is_twelve
-  begins-not-later g n lost e = rw e
-
-  pub put-not-later : (n : ℕ) → d ≡ decision.PutIn n → false ≡ is_twelve (decided_as s fs d).answer
-  unfolding decided_as accept is_twelve
-  put-not-later n e = rw e
-
-  pub again-not-later : (n : ℕ) → d ≡ decision.Again n → false ≡ is_twelve (decided_as s fs d).answer
-  unfolding decided_as accept refuse is_twelve
-  again-not-later n e = rw e (go (same_bundles (bundle_at holding_shape s.group n) (laid holding_shape fs)))
-    where
-      go : (b : Bool) → false ≡ is_twelve (cond b (accept s 0) (refuse s PacketDiffers)).answer
-      go true = refl
-      go false = refl
-
-  pub refused-later : (r : Refusal) (n : ℕ) → d ≡ decision.Refused r → n ≡ number_of r → eqb n 12 ≡ is_twelve (decided_as s fs d).answer
-  unfolding decided_as refuse is_twelve
-  refused-later r n e q = rw (e, q)
 
 -- ---- types and bodies emptied
 pub all-erased : (d e : List ℕ) → length d ≡ 80 → e ≡ over d 0 (replicate 80 erasure) → e ≡ (nothing holding_shape).marks
@@ -75,21 +46,6 @@ all-erased d e l q = q ∙ over-whole d (replicate 80 erasure) (l ∙ sym (lengt
 pub all-zero : (d e : List ℕ) → length d ≡ 1760 → e ≡ over d 0 (replicate 1760 0) → e ≡ (nothing holding_shape).room
 unfolding nothing begun
 all-zero d e l q = q ∙ over-whole d (replicate 1760 0) (l ∙ sym (length-replicate {A = ℕ} 1760 0))
-
--- ---- a packet of the capture, decided with its own numbers
-pub decides-heard : (t : Standing) (c : List ℕ) (i start source sequence timestamp size : ℕ) (d : Decision)
-    → source ≡ four_at c (2 + 12 * i)
-    → sequence ≡ two_at c (2 + 12 * i + 4)
-    → timestamp ≡ four_at c (2 + 12 * i + 6)
-    → size ≡ two_at c (2 + 12 * i + 10)
-    → start ≡ start_at c i
-    → d ≡ decision_of t source sequence timestamp (take (start + size - start) (drop start c))
-    → DecidesOf t (heard_at c i) d
-unfolding heard_at
-decides-heard t c i start source sequence timestamp size d e f g h q x =
-    let p : take (start + size - start) (drop start c) ≡ take (length_at c i) (drop (start_at c i) c) =
-    part-is c start size ∙ ap₂ (λ (k j : ℕ). take k (drop j c)) h q in
-    rw (← e, ← f, ← g, ← p) x
 
 -- ---- rows put where they fit
 module _ (ms rs : List ℕ) (m b size : ℕ) (long : length rs ≡ 1760) (few : m ≤ 8) (b-few : b ≤ 10) (e : size ≡ rows_size capture_kind.table ms m b) where
@@ -140,12 +96,7 @@ pub stands_from : (t : Standing) (ms rs : List ℕ) (s : Session) → whole t ms
 stands_from t ms rs s e x = let y = subst (Stays capture_kind.table) (sym e) x in record { opened = y.opened; spans = y.shaped }
 
 -- ---- a packet taken as it was decided
-pub heard-payload : (c : List ℕ) (i start size : ℕ) → size ≡ two_at c (2 + 12 * i + 10) → start ≡ start_at c i
-    → take (start + size - start) (drop start c) ≡ (heard_at c i).payload
-unfolding heard_at
-heard-payload c i start size h q = part-is c start size ∙ ap₂ (λ (k j : ℕ). take k (drop j c)) h q
-
-module _ (t : Standing) (ms rs : List ℕ) (h : Stands t ms rs) (k : Heard) (d : Decision) (x : DecidesOf t k d) where
+module _ (t : Standing) (ms rs : List ℕ) (h : Stands t ms rs) (k : Heard) (d : Result Decision Refusal) (x : DecidesOf t k d) where
   worth : Decides t k.source k.sequence k.timestamp k.payload d
   worth = decides-as t k.source k.sequence k.timestamp k.payload d x
 
@@ -164,7 +115,7 @@ module _ (t : Standing) (ms rs : List ℕ) (h : Stands t ms rs) (k : Heard) (d :
   later-is b q = q (whole t ms rs) (frames_of t.form k.payload) ∙ ap (λ (o : Offered). is_twelve o.answer) decided-is
 
 -- a refused offer leaves the session as it was
-kept : (v : FrameTable) (s : Session) (h : Heard) (r : Refusal) → (offered_to v s h).answer ≡ Refused r → (offered_to v s h).session ≡ s
+kept : (v : FrameTable) (s : Session) (h : Heard) (r : Refusal) → (offered_to v s h).answer ≡ Err r → (offered_to v s h).session ≡ s
 unfolding offered_to
 kept v s h r = refused-keeps (voice_with v) s h.source h.sequence h.timestamp h.payload r
 
@@ -177,16 +128,16 @@ took-does kind s h o lost at d e q l p = go (offered_to kind.table s h).answer r
     z : lost ≡ lost_in (offered_to kind.table s h).answer
     z = l ∙ ap (λ (x : Offered). lost_in x.answer) q
 
-    go : (w : Taken) → (offered_to kind.table s h).answer ≡ w
+    go : (w : Result ℕ Refusal) → (offered_to kind.table s h).answer ≡ w
         → Does (taken_of kind s (offered_to kind.table s h).session w) at d (record { session = o.session; octets = at + lost }) e
-    go (Accepted n) f =
+    go (Ok n) f =
         let m : lost ≡ n = z ∙ ap lost_in f in
         record {
           session = ap (λ (x : Offered). x.session) q;
           counted = ap (λ (i : ℕ). at + i) (m ∙ sym (length-replicate n kind.erasure));
           written = rw (← m) p;
         }
-    go (Refused r) f =
+    go (Err r) f =
         let m : lost ≡ 0 = z ∙ ap lost_in f in
         record {
           session = ap (λ (x : Offered). x.session) q ∙ kept kind.table s h r f;
@@ -194,8 +145,16 @@ took-does kind s h o lost at d e q l p = go (offered_to kind.table s h).answer r
           written = rw m at p;
         }
 
+-- and after one that was refused
+pub took-nothing : (kind : Kind) (s : Session) (h : Heard) (o : Offered) (r : Refusal) (at : ℕ) (d : List ℕ) → o ≡ offered_to kind.table s h → o.answer ≡ Err r
+    → Does (offering kind s h) at d (record { session = o.session; octets = at }) d
+unfolding lost_in
+took-nothing kind s h o r at d q e =
+    subst (λ (n : ℕ). Does (offering kind s h) at d (record { session = o.session; octets = n }) d) (add-zero at)
+    (took-does kind s h o 0 at d d q (sym (ap lost_in e)) (λ x. over_nothing d at))
+
 -- ---- a step of the run in place: on 12 it pours, else it is ready
-module _ (g : Going) (ms rs : List ℕ) (h : Stands g.standing ms rs) (k : Heard) (d : Decision) (x : DecidesOf g.standing k d) (b : Bool)
+module _ (g : Going) (ms rs : List ℕ) (h : Stands g.standing ms rs) (k : Heard) (d : Result Decision Refusal) (x : DecidesOf g.standing k d) (b : Bool)
     (twelve : (s : Session) (fs : List Frame) → b ≡ is_twelve (decided_as s fs d).answer) (out : List ℕ) where
   pub ready-once : b ≡ false → Does (readied capture_kind (whole g.standing ms rs) k) g.octets out (run_in g ms rs) out
   ready-once q =

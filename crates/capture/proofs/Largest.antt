@@ -1,5 +1,6 @@
 -- No recording of a capture is larger than `largest`: what a run has recorded, and what its held group would pour, is at most 300 octets for each
 -- packet offered, and 3,000 lost frames more for each once a group was poured. Assumes nothing.
+use Rattle.std.proofs.Common.{is_some}
 use Prim.Native.Nat.{ℕ, zero, suc, ◌+◌, ◌*◌, ◌≤◌, ◌<◌}
 use mathlib.Core.Bool.{Bool, true, false, cond}
 use mathlib.Core.Path.{◌≡◌, refl, ap, ap₂, ◌∙◌}
@@ -34,12 +35,10 @@ use Rattle.frame.specs.Places.{up_to}
 use Rattle.pouring.proofs.PouringLaws.{entries-append}
 use Rattle.answers.specs.declared.Refusal.{Refusal}
 use Rattle.answers.specs.declared.Refusal.TheVariants.{NotApplicable}
-use Rattle.session.specs.Session.{is_open, refuse, accept, with_group, begins, arrival, offered, pour_made}
+use Rattle.session.specs.Session.{Arrival, Offered, is_open, refuse, accept, with_group, begins, arrival, offered, pour_made}
 use Rattle.session.specs.Session.{ended, never_opened, fresh, vacant}
 use Rattle.session.proofs.Ends.{Placed, no, again, put, first, next, Ends, refuses, places, offer-ends}
 use Rattle.session.specs.declared.Session.{Session}
-use Rattle.session.specs.declared.Arrival.{Arrival}
-use Rattle.session.specs.declared.Offered.{Offered}
 use Rattle.capture.specs.Capture.{Heard}
 use Rattle.capture.specs.Run.{Step, still, and_then, first_session, offered_to, taken_of, offering, poured_of, pouring, is_twelve, readied, step_of, run_of}
 use Rattle.capture.specs.Run.{lost_in}
@@ -62,7 +61,7 @@ module _ (v : FrameTable) (w : T (within 22 v)) (z : T (erases v)) (h : Holding)
   unfolding right_in held_at same_bundles mark_at not_held
   lost-mark n k p q e =
       let b = bundle_at holding_shape h n in
-      let s : same_bundles b (not_held holding_shape) ≡ true = packet-lost (voice_with v) h.l h.b n (held_at h n) b e ∙ right n p in
+      let s : same_bundles b (not_held holding_shape) ≡ true = packet-lost (voice_with v) h.numbers.l h.numbers.b n (held_at h n) b e ∙ right n p in
       let m = same_true b.marks (replicate 10 erasure) (both_true (same_octets b.marks (replicate 10 erasure)) _ s).0 in
       ap (λ (l : List ℕ). get_or l k 0) m ∙ get_or-replicate 10 k erasure 0 q
 
@@ -113,11 +112,11 @@ held-grows h m (suc n) p =
 pour-small : (v : FrameTable) → T (within 22 v) → T (erases v) → (h : Holding) → holds (voice_with v) h ≡ true → length (entries_of (in_time (voice_with v) h)) ≤ 80 + 220 * held_below h 8
 pour-small v w z h e =
     let s = sound-has (voice_with v) h (holds-sound (voice_with v) h e).0 in
-    let low : h.l + 1 ≤ 8 = omega (arith, s.low) in
-    let i = rows-small v w z h (λ n p. all-at (right_at (voice_with v) h) 8 n s.packets p) (h.l + 1) h.b low s.few in
-    let g = held-grows h (h.l + 1) 8 low in
-    let wide : h.l + 1 + 22 * held_below h (h.l + 1) ≤ 8 + 22 * held_below h 8 = omega arith in
-    let m = mul-le-mul {n₁ = h.b} {m₁ = h.l + 1 + 22 * held_below h (h.l + 1)} {n₂ = 10} {m₂ = 8 + 22 * held_below h 8} s.few wide in
+    let low : h.numbers.l + 1 ≤ 8 = omega (arith, s.low) in
+    let i = rows-small v w z h (λ n p. all-at (right_at (voice_with v) h) 8 n s.packets p) (h.numbers.l + 1) h.numbers.b low s.few in
+    let g = held-grows h (h.numbers.l + 1) 8 low in
+    let wide : h.numbers.l + 1 + 22 * held_below h (h.numbers.l + 1) ≤ 8 + 22 * held_below h 8 = omega arith in
+    let m = mul-le-mul {n₁ = h.numbers.b} {m₁ = h.numbers.l + 1 + 22 * held_below h (h.numbers.l + 1)} {n₂ = 10} {m₂ = 8 + 22 * held_below h 8} s.few wide in
     omega (arith, i, m)
 
 held-few : (h : Holding) (m : ℕ) → held_below h m ≤ m
@@ -159,7 +158,7 @@ abbrev weight : Session → ℕ
 weight s = cond (is_nothing holding_shape s.group) 0 (80 + 220 * held_below s.group 8)
 
 abbrev before : Session → ℕ
-before s = cond s.poured minute 0
+before s = cond (is_some s.last) minute 0
 
 weight-most : (s : Session) → weight s ≤ 80 + 220 * held_below s.group 8
 weight-most s = go (is_nothing holding_shape s.group)
@@ -171,7 +170,7 @@ weight-most s = go (is_nothing holding_shape s.group)
 -- ---- an offer brings 300 octets at most, and the lost frames before it
 data Brings (s : Session) (o : Offered) : Type 0 where
   nothing_new : (r : Refusal) → o ≡ refuse s r → Brings s o
-  more : (t : Session) (lost : ℕ) → o ≡ accept t lost → t.poured ≡ s.poured → t.source ≡ s.source →
+  more : (t : Session) (lost : ℕ) → o ≡ accept t lost → (is_some t.last) ≡ (is_some s.last) → t.source ≡ s.source →
       lost ≤ minute → lost + weight t ≤ weight s + 300 + before s → Brings s o
 
 -- a group that a packet begins
@@ -193,8 +192,8 @@ placed-brings s a o (put q k f i e) =
     more (with_group s (with_packet holding_shape g a.n a.packet)) 0 e refl refl (omega arith)
     (omega (arith, weight-most (with_group s (with_packet holding_shape g a.n a.packet)), with-small g a.n a.packet 8, held))
 placed-brings s a o (first q p e) = more _ 0 e refl refl (omega arith) (omega (arith, begun-weight s a))
-placed-brings s a o (next q p lost f h e) =
-    let b : before s ≡ minute = simp p in
+placed-brings s a o (next q gp p lost f h e) =
+    let b : before s ≡ minute = rw p refl in
     more _ lost e refl refl h (omega (arith, begun-weight s a, h, b))
 
 offer-brings : (v : FrameTable) (s : Session) (h : Heard) → Brings s (offered_to v s h)
@@ -217,7 +216,7 @@ lost-few v s h = go (offered_to v s h) (offer-brings v s h)
 
 -- ---- an offer in a run
 record Brought (s : Session) (a : Step) : Type 0 where
-  same : a.session.poured ≡ s.poured
+  same : (is_some a.session.last) ≡ (is_some s.last)
   source : a.session.source ≡ s.source
   small : length a.octets + weight a.session ≤ weight s + 300 + before s
 
@@ -260,10 +259,10 @@ abbrev cap : Bool → ℕ → ℕ
 cap poured i = cond poured ((300 + minute) * i) (300 * i)
 
 abbrev Small : Session → ℕ → ℕ → Type 0
-Small s len i = len + weight s + before s ≤ cap s.poured i
+Small s len i = len + weight s + before s ≤ cap (is_some s.last) i
 
 then-small : (s : Session) (len i : ℕ) (a : Step) → Small s len i → Brought s a → Small a.session (len + length a.octets) (i + 1)
-then-small s len i a h b = go s.poured a.session.poured b.same h b.small
+then-small s len i a h b = go (is_some s.last) (is_some a.session.last) b.same h b.small
   where
     go :
         (p q : Bool) →
@@ -330,7 +329,7 @@ module _ (v : FrameTable) (w : T (within 22 v)) (z : T (erases v)) where
       go a (none e) = let q : Small s (len + 0) i = omega arith in rw e q
       go a (some e x y) =
           let q : weight (ended holding_shape s) ≡ 0 = simp (nothing_is holding_shape) in
-          let k = first s.poured h x in
+          let k = first (is_some s.last) h x in
           let r : Small (ended holding_shape s) (len + length a.octets) i = omega arith in
           rw e r
 
@@ -374,7 +373,7 @@ module _ (kind : Kind) (w : T (within 22 kind.table)) (z : T (erases kind.table)
   first_small (h ∷ hs) = simp (nothing_is holding_shape) (omega arith)
 
   few-octets : (s : Session) (len n : ℕ) → n ≤ 256 → Small s len n → len ≤ 256 * 300 + 255 * minute
-  few-octets s len n h x = go s.poured x
+  few-octets s len n h x = go (is_some s.last) x
     where
       go : (p : Bool) → len + weight s + cond p minute 0 ≤ cap p n → len ≤ 256 * 300 + 255 * minute
       go true x = omega arith

@@ -1,5 +1,6 @@
 -- The run over a capture, step by step. Assumes nothing.
-use Prim.Native.Nat.{ℕ, zero, suc, ◌+◌, ◌≤◌, ◌<◌}
+use Rattle.std.proofs.Common.{Result, Ok}
+use Prim.Native.Nat.{ℕ, zero, suc, ◌+◌, ◌≤◌}
 use mathlib.Core.Bool.{Bool, true, false}
 use mathlib.Core.Path.{◌≡◌, refl, sym, ap, ap₂, ◌∙◌}
 use mathlib.Core.List.{List, [], ◌∷◌, ◌++◌, append_assoc, append-nil}
@@ -7,32 +8,26 @@ use native.Mathlib.Nat.{le_refl, add-zero, zero-add}
 use native.Mathlib.Omega.{arith}
 use lib.ListN.{length, drop, length-append}
 use lib.Dec.{T}
-use borrow.Author.Tests.{le-leb, lt-leb}
+use borrow.Author.Tests.{le-leb}
+use Rattle.answers.specs.declared.Refusal.{Refusal}
 use Rattle.octets.specs.Octets.{over}
 use Rattle.octets.proofs.OctetsLaws.{over-append, over_nothing, length_over}
 use Rattle.frame.specs.FrameTable.{FrameTable, within, erases}
 use Rattle.frame.specs.Shape.{holding_shape}
 use Rattle.frame.specs.Places.{up_to}
 use Rattle.answers.specs.Outputs.{Made, octets, written_of, out_after, Writes}
-use Rattle.answers.specs.declared.Refusal.TheVariants.{NoRoom}
-use Rattle.answers.specs.declared.Written.{Written}
-use Rattle.answers.specs.declared.Written.TheVariants as written
 use Rattle.entries.specs.Kind.{Kind}
 use Rattle.entries.specs.Entries.{entries}
 use Rattle.recording.specs.Recording.{recording_made}
 use Rattle.numbers.specs.Place.{minute}
-use Rattle.session.specs.Session.{never_opened, vacant, fresh, is_open, pour_made}
+use Rattle.session.specs.Session.{Offered, never_opened, vacant, fresh, is_open, pour_made}
 use Rattle.session.specs.declared.Session.{Session}
-use Rattle.session.specs.declared.Offered.{Offered}
-use Rattle.session.specs.declared.Taken.{Taken}
 use Rattle.frame.proofs.PlacesLaws.{length-upTo, upTo-more, up_to-first}
 use Rattle.frame.proofs.FrameTableLaws.{rows-within, rows-erases}
 use Rattle.capture.specs.Capture.{Heard, count_of, heard_at, packets_in, good}
-use Rattle.capture.specs.Run.{capture_vocoder, capture_kind, Step, still, and_then, capture_form, first_session, offered_to, offering, poured_of, pouring, is_twelve}
+use Rattle.capture.specs.Run.{Run, capture_vocoder, capture_kind, Step, still, and_then, capture_form, first_session, offered_to, offering, poured_of, pouring, is_twelve}
 use Rattle.capture.specs.Run.{lost_in, readied, answered_by, step_of, run_of, whole_run, entries_recorded, capture_recording, largest, Put, Does, record_answer}
 use Rattle.capture.specs.Run.{record_output}
-use Rattle.capture.specs.declared.Run.{Run}
-use Rattle.capture.specs.declared.Outcome.TheVariants as outcome
 use Rattle.capture.proofs.Largest.{lost-few, run-few, all-few}
 use Rattle.capture.proofs.CaptureLaws.{good-is}
 
@@ -48,7 +43,7 @@ table-erases = rows-erases capture_vocoder
 abbrev before : Step → Step → Step
 before a b = record { session = b.session; octets = a.octets ++ b.octets; answers = a.answers ++ b.answers }
 
-abbrev recorded : Session → List ℕ → List Taken → Step
+abbrev recorded : Session → List ℕ → List (Result ℕ Refusal) → Step
 recorded s o w = record { session = s; octets = o; answers = w }
 
 pub run-append : (kind : Kind) (s : Session) (hs ks : List Heard) → run_of kind s (hs ++ ks) ≡ and_then (run_of kind s hs) (λ t. run_of kind t ks)
@@ -109,7 +104,7 @@ does-as : (a b : Step) (at : ℕ) (d e : List ℕ) (r : Run) → a ≡ b → Doe
 does-as a b at d e r q x = rw (← q) x
 
 -- nothing is done
-pub does-nothing : (a : Step) (d : List ℕ) (r : Run) (w : List Taken) → a ≡ still r.session w → Does a r.octets d r d
+pub does-nothing : (a : Step) (d : List ℕ) (r : Run) (w : List (Result ℕ Refusal)) → a ≡ still r.session w → Does a r.octets d r d
 does-nothing a d r w q = rw q (record { session = refl; counted = sym (add-zero r.octets); written = put-nothing d r.octets })
 
 -- ---- an offer
@@ -138,7 +133,7 @@ module _ (kind : Kind) (s : Session) (h : Heard) (at : ℕ) (d e : List ℕ) (p 
   unfolding step_of
   step-does e' r z = does-then (readied kind s h) _ (λ t. offering kind t h) at d e e' p r x (ap (λ (t : Session). offering kind t h) x.session) z
 
-  pub step-answered : (a : Taken) → a ≡ (offered_to kind.table p.session h).answer → a ≡ answered_by kind s h
+  pub step-answered : (a : Result ℕ Refusal) → a ≡ (offered_to kind.table p.session h).answer → a ≡ answered_by kind s h
   step-answered a q = q ∙ ap (λ (t : Session). (offered_to kind.table t h).answer) x.session
 
 pub lost-fit : (v : FrameTable) (s : Session) (h : Heard) (o : Offered) → o ≡ offered_to v s h → lost_in o.answer ≤ minute
@@ -191,7 +186,7 @@ unfolding packets_in
 all-fits kind w z c g s f d e r x = run_fits kind w z c g (count_of c) (count_of c) 7 refl (le_refl _) refl s f d e r x
 
 -- ---- the opening octets, written before anything else
-pub opening-put : (kind : Kind) (out out' : List ℕ) (r : Written) → Writes (recording_made kind []) out r out' → Put out 0 kind.opening out'
+pub opening-put : (kind : Kind) (out out' : List ℕ) (r : Result ℕ Refusal) → Writes (recording_made kind []) out r out' → Put out 0 kind.opening out'
 unfolding recording_made entries out_after over
 opening-put kind out out' r x h =
     let e : recording_made kind [] ≡ octets kind.opening = ap octets (append-nil kind.opening) in
@@ -230,18 +225,10 @@ largest-is kind w z c l g =
     omega (arith, y, length-append kind.opening (and_then (run_of kind (first_session (packets_in c)) (packets_in c)) (pouring kind.table)).octets)
 
 module _ (kind : Kind) (c out : List ℕ) where
-  pub answer-bad : good c ≡ false → (outcome.BadCapture ≡ record_answer kind c out) × (out ≡ record_output kind c out)
-  unfolding record_answer record_output
-  answer-bad e = (simp e, simp e)
-
-  pub answer-no-room : good c ≡ true → length out < length (capture_recording kind c) → (outcome.Recorded (written.Refused NoRoom) ≡ record_answer kind c out) × (out ≡ record_output kind c out)
-  unfolding record_answer record_output written_of out_after
-  answer-no-room e h = (simp (e, lt-leb _ _ h), simp (e, lt-leb _ _ h))
-
   pub answer-octets : good c ≡ true → length (capture_recording kind c) ≤ length out → (n : ℕ) (after : List ℕ) → n ≡ length (capture_recording kind c) → Put out 0 (capture_recording kind c) after
-      → (outcome.Recorded (written.Octets n) ≡ record_answer kind c out) × (after ≡ record_output kind c out)
+      → (Ok n ≡ record_answer kind c out) × (after ≡ record_output kind c out)
   unfolding record_answer record_output written_of out_after over
   answer-octets e h n after q p =
       let w = capture_recording kind c in
       let k : 0 + length w ≤ length out = omega arith in
-      (simp (e, le-leb _ _ h) (ap (λ (i : ℕ). outcome.Recorded (written.Octets i)) q), simp (e, le-leb _ _ h) (p k ∙ ap (λ (i : ℕ). w ++ drop i out) (zero-add (length w))))
+      (simp (e, le-leb _ _ h) (ap Ok q), simp (e, le-leb _ _ h) (p k ∙ ap (λ (i : ℕ). w ++ drop i out) (zero-add (length w))))

@@ -1,4 +1,5 @@
 -- A session that is open stays open: an offer leaves it so, and so does pouring. Assumes nothing.
+use Rattle.std.proofs.Common.{Result, Ok, Err}
 use Prim.Native.Nat.{ℕ, ◌≤◌}
 use mathlib.Core.Bool.{Bool, true, false, cond}
 use mathlib.Core.Path.{◌≡◌, refl}
@@ -7,6 +8,7 @@ use native.Mathlib.Omega.{arith}
 use lib.ListN.{length}
 use lib.Dec.{T}
 use borrow.Author.Tests.{eq-eqb}
+use Rattle.answers.specs.declared.Refusal.{Refusal}
 use Rattle.frame.specs.FrameTable.{FrameTable, Frame, within, single, erases}
 use Rattle.frame.specs.Shape.{Voice, holding_shape, voice_with}
 use Rattle.payload.proofs.Readings.{IsPacket, read_is}
@@ -18,13 +20,9 @@ use Rattle.pouring.specs.Pouring.{poured}
 use Rattle.knowledge.specs.Knowledge.{Box}
 use Rattle.knowledge.proofs.JoinLaws.{box-sound}
 use Rattle.knowledge.proofs.PutLaws.{Keeps, put-box, begun-shaped, begun-keeps}
-use Rattle.session.specs.Session.{last_right, group_right, is_open, refuse, accept, with_group, begins, arrival, offered, pour_made, ended}
+use Rattle.session.specs.Session.{Arrival, Offered, last_right, group_right, is_open, refuse, accept, with_group, begins, arrival, offered, pour_made, ended}
 use Rattle.session.specs.declared.Session.{Session}
-use Rattle.session.specs.declared.Arrival.{Arrival}
-use Rattle.session.specs.declared.Offered.{Offered}
 use Rattle.session.proofs.Ends.{open-has, group-has, ended-open, Placed, no, again, put, first, next, Ends, refuses, places, offer-ends}
-use Rattle.session.specs.declared.Taken.{Taken}
-use Rattle.session.specs.declared.Taken.TheVariants.{Accepted, Refused}
 use Rattle.entries.specs.Kind.{Kind}
 use Rattle.capture.specs.Capture.{Heard}
 use Rattle.capture.specs.Run.{still, and_then, offered_to, taken_of, offering, poured_of, pouring, is_twelve, readied, step_of}
@@ -48,7 +46,7 @@ module _ (v : FrameTable) (w : T (within 22 v)) (z : T (erases v)) (one : T (sin
     a = arrival holding_shape sequence timestamp l n fs
 
     -- a group that holds packet n too, of a group that keeps the rule
-    with-stays : (h : Holding) → Keeps (voice_with v) h → h.source ≡ s.source → n ≤ h.l → length fs ≡ h.b
+    with-stays : (h : Holding) → Keeps (voice_with v) h → h.source ≡ s.source → n ≤ h.numbers.l → length fs ≡ h.numbers.b
         → Stays v (with_group s (with_packet holding_shape h n (laid holding_shape fs)))
     unfolding with_group with_packet
     with-stays h k e q m =
@@ -72,7 +70,7 @@ module _ (v : FrameTable) (w : T (within 22 v)) (z : T (erases v)) (one : T (sin
         let k : Keeps (voice_with v) s.group = record { shaped = x.shaped; rule = (holds-sound (voice_with v) s.group h.0).0 } in
         rw e (with-stays s.group k h.1 (omega (arith, i.index_in, f)) g)
     placed-stays o (first q p e) = rw e (begins-stays 0)
-    placed-stays o (next q p lost f h e) = rw e (begins-stays lost)
+    placed-stays o (next q gp p lost f h e) = rw e (begins-stays lost)
 
   pub offer-stays : (s : Session) → Stays v s → (h : Heard) → Stays v (offered_to v s h).session
   unfolding offered_to refuse
@@ -97,9 +95,9 @@ module _ (kind : Kind) (w : T (within 22 kind.table)) (z : T (erases kind.table)
   unfolding offering taken_of
   offering-stays s x h = go (offered_to kind.table s h).answer
     where
-      go : (a : Taken) → Stays kind.table (taken_of kind s (offered_to kind.table s h).session a).session
-      go (Accepted lost) = offer-stays kind.table w z one s x h
-      go (Refused r) = x
+      go : (a : Result ℕ Refusal) → Stays kind.table (taken_of kind s (offered_to kind.table s h).session a).session
+      go (Ok lost) = offer-stays kind.table w z one s x h
+      go (Err r) = x
 
   readied-stays : (s : Session) → Stays kind.table s → (h : Heard) → Stays kind.table (readied kind s h).session
   unfolding readied

@@ -1,13 +1,12 @@
 -- The run that measures: each packet brings its lost frames, its bodies, and an octet for each place of a group that it begins. Assumes nothing.
+use Rattle.std.proofs.Common.{Result, Err, Ok}
 use Prim.Native.Nat.{ℕ, ◌+◌, ◌-◌, ◌*◌, ◌≤◌, ◌<◌}
 use mathlib.Core.Bool.{Bool, true, false, cond}
 use mathlib.Core.Path.{◌≡◌, refl, sym, ap, ap₂, subst, ◌∙◌}
 use mathlib.Core.List.{List}
 use native.Mathlib.Nat.{add_assoc, mul_comm, mul-le-mul}
 use native.Mathlib.Omega.{arith}
-use lib.ListN.{length, drop, replicate, length-append, length-replicate, length-drop}
-use lib.Seq.{length-take-le}
-use Rattle.octets.specs.Octets.{two_at}
+use lib.ListN.{length, replicate, length-append, length-replicate}
 use Rattle.octets.proofs.Logic.{apart}
 use Rattle.frame.specs.FrameTable.{Frame, erasure, AllListed}
 use Rattle.frame.specs.Shape.{Voice, holding_shape, voice_with}
@@ -33,18 +32,17 @@ use Rattle.holding.proofs.GroupLaws.{holds-sound}
 use Rattle.pouring.specs.Pouring.{in_time}
 use Rattle.knowledge.proofs.PutLaws.{Keeps, begun-keeps, begun-lost}
 use Rattle.knowledge.proofs.PouredLaws.{begun-pours, put-pours}
-use Rattle.session.specs.Session.{vacant, fresh, is_open, refuse, accept, with_group, begins, arrival, offered, ended}
+use Rattle.session.specs.Session.{Offered, vacant, fresh, is_open, refuse, accept, with_group, begins, arrival, offered, ended}
 use Rattle.session.specs.Standing.{whole, Stands, frames_of, decided_as, begun_with, holding_also}
 use Rattle.session.specs.declared.Session.{Session}
 use Rattle.session.specs.declared.Standing.{Standing}
 use Rattle.session.specs.declared.Decision.{Decision}
 use Rattle.session.specs.declared.Decision.TheVariants as decision
-use Rattle.session.specs.declared.Offered.{Offered}
 use Rattle.session.proofs.Ends.{open-has, group-has, ended-open, Placed, no, again, put, first, next, Ends, refuses, places, offer-ends}
 use Rattle.session.proofs.SessionLaws.{group-holds, pour-vacant, pour-group}
 use Rattle.session.proofs.StandingLaws.{is-vacant}
 use Rattle.session.proofs.StandingLaws.{Decides, decides-as, PutsIn, puts-in}
-use Rattle.capture.specs.Capture.{Heard, count_of, length_at, start_at, heard_at, packets_in, good}
+use Rattle.capture.specs.Capture.{Heard, count_of, heard_at, packets_in, good}
 use Rattle.capture.specs.Run.{capture_vocoder, capture_form, capture_kind, and_then, offered_to, lost_in, taken_of, offering, poured_of, pouring, is_twelve, readied, step_of, run_of}
 use Rattle.capture.specs.Run.{Step, first_session, whole_run, entries_recorded, capture_recording, largest}
 use Rattle.capture.specs.Going.{DecidesOf}
@@ -62,15 +60,15 @@ voice = voice_with capture_kind.table
 
 -- ---- what a held group records when it is poured
 module _ (s : Session) (o : is_open voice s ≡ true) where
-  held_none : s.group.b ≡ 0 → held_octets s ≡ 0
+  held_none : s.group.numbers.b ≡ 0 → held_octets s ≡ 0
   unfolding held_octets pouring poured_of
   held_none z = ap (λ (m : Made). length (poured_of s m).octets) (pour-vacant voice s o z)
 
-  held-some : (s.group.b ≡ 0 → ⊥) → held_octets s ≡ length (entries_of (in_time voice s.group))
+  held-some : (s.group.numbers.b ≡ 0 → ⊥) → held_octets s ≡ length (entries_of (in_time voice s.group))
   unfolding held_octets pouring poured_of
   held-some n = ap (λ (m : Made). length (poured_of s m).octets) (pour-group voice s o n)
 
-  held_keeps : Stays capture_kind.table s → (s.group.b ≡ 0 → ⊥) → Keeps voice s.group
+  held_keeps : Stays capture_kind.table s → (s.group.numbers.b ≡ 0 → ⊥) → Keeps voice s.group
   held_keeps x n = record { shaped = x.shaped; rule = (holds-sound voice s.group (group-holds voice s o n)).0 }
 
 -- ---- the step that an offer is, by what it answers
@@ -106,7 +104,7 @@ unfolding accept refuse
 not-refused s t lost r e = let z = ap (λ (o : Offered). o.answer) e in apart (cc)
 
 -- ---- a packet, as it was decided
-module _ (g : Going) (ms rs : List ℕ) (st : Stands g.standing ms rs) (f : g.standing.form ≡ capture_form) (h : Heard) (d : Decision) (x : DecidesOf g.standing h d) where
+module _ (g : Going) (ms rs : List ℕ) (st : Stands g.standing ms rs) (f : g.standing.form ≡ capture_form) (h : Heard) (d : Result Decision Refusal) (x : DecidesOf g.standing h d) where
   abbrev s : Session
   s = whole g.standing ms rs
 
@@ -141,16 +139,16 @@ module _ (g : Going) (ms rs : List ℕ) (st : Stands g.standing ms rs) (f : g.st
         go true = record { marks = ms; room = rs; session = refl; stands = st; form = f; counted = omega arith }
         go false = record { marks = ms; room = rs; session = refl; stands = st; form = f; counted = omega arith }
 
-    refused-measured : (r : Refusal) → d ≡ decision.Refused r → Measured (offering capture_kind s h).session (at + length (offering capture_kind s h).octets) g
+    refused-measured : (r : Refusal) → d ≡ Err r → Measured (offering capture_kind s h).session (at + length (offering capture_kind s h).octets) g
     unfolding decided_as
     refused-measured r e = quiet (decided_as s fs d) false r offer-is (rw e)
 
-    again-measured : (n : ℕ) → d ≡ decision.Again n → Measured (offering capture_kind s h).session (at + length (offering capture_kind s h).octets) g
+    again-measured : (n : ℕ) → d ≡ Ok (decision.Again n) → Measured (offering capture_kind s h).session (at + length (offering capture_kind s h).octets) g
     unfolding decided_as
     again-measured n e = quiet (decided_as s fs d) (same_bundles (bundle_at holding_shape s.group n) (laid holding_shape fs)) PacketDiffers offer-is (rw e)
 
   -- ---- it is put into the held group
-  module _ (n : ℕ) (e : d ≡ decision.PutIn n) where
+  module _ (n : ℕ) (e : d ≡ Ok (decision.PutIn n)) where
     abbrev put-session : Session
     put-session = with_group s (with_packet holding_shape s.group n (laid holding_shape fs))
 
@@ -171,7 +169,7 @@ module _ (g : Going) (ms rs : List ℕ) (st : Stands g.standing ms rs) (f : g.st
     put_full : 1 + length anew.fs + taken 0 anew.fs ≡ length h.payload
     put_full = filled-by anew.l n anew.d anew.fs anew.read
 
-    put_some : s.group.b ≡ 0 → ⊥
+    put_some : s.group.numbers.b ≡ 0 → ⊥
     put_some z = absurd (omega (arith, put-packet.some, anew.many))
 
     -- octet 0 and the entries are there, and packet n is one of eight
@@ -207,7 +205,7 @@ module _ (g : Going) (ms rs : List ℕ) (st : Stands g.standing ms rs) (f : g.st
         })
 
   -- ---- it begins a group
-  module _ (k : GroupNumbers) (n lost : ℕ) (e : d ≡ decision.Begins k n lost) where
+  module _ (k : GroupNumbers) (n lost : ℕ) (e : d ≡ Ok (decision.Begins k n lost)) where
     abbrev group : Holding
     group = with_packet holding_shape (begun holding_shape s.source k) n (laid holding_shape fs)
 
@@ -215,7 +213,7 @@ module _ (g : Going) (ms rs : List ℕ) (st : Stands g.standing ms rs) (f : g.st
     unfolding decided_as begins
     begin-is = rw e
 
-    none-held : s.group.b ≡ 0
+    none-held : s.group.numbers.b ≡ 0
     none-held = let y = rw e at (worth.fits ms rs st) in y.2
 
     begun-so : Begun g.standing.form h.payload s.source group
@@ -236,7 +234,7 @@ module _ (g : Going) (ms rs : List ℕ) (st : Stands g.standing ms rs) (f : g.st
         by_place l m i gs r o (put c y a b q) j = never c
         by_place l m i gs r o (first c y q) j =
             record { d = i; numbers = _; m = m; fs = gs; read = r; many = refl; is = group-is _ 0 (j ∙ q) }
-        by_place l m i gs r o (next c y more a b q) j =
+        by_place l m i gs r o (next c gy y more a b q) j =
             record { d = i; numbers = _; m = m; fs = gs; read = r; many = refl; is = group-is _ more (j ∙ q) }
 
         go : (o : Offered) → Ends voice s h.source h.sequence h.timestamp h.payload o → accept (with_group s group) lost ≡ o
@@ -253,11 +251,11 @@ module _ (g : Going) (ms rs : List ℕ) (st : Stands g.standing ms rs) (f : g.st
 
     same_length : k.l ≡ begun-so.numbers.l
     unfolding with_packet begun
-    same_length = ap (λ (y : Holding). y.l) begun-so.is
+    same_length = ap (λ (y : Holding). y.numbers.l) begun-so.is
 
     same-many : k.b ≡ begun-so.numbers.b
     unfolding with_packet begun
-    same-many = ap (λ (y : Holding). y.b) begun-so.is
+    same-many = ap (λ (y : Holding). y.numbers.b) begun-so.is
 
     -- octet 0 and the entries are there, packet n is one of eight, and the lost frames and the places are few
     pub begin-fits : (n < 8) × (1 + k.b ≤ length h.payload) × (lost ≤ minute) × ((k.l + 1) * k.b ≤ 80)
@@ -273,7 +271,7 @@ module _ (g : Going) (ms rs : List ℕ) (st : Stands g.standing ms rs) (f : g.st
     unfolding accept
     begin-stays = subst (λ (o : Offered). Stays capture_kind.table o.session) begin-is after-stays
 
-    begin-some : group.b ≡ 0 → ⊥
+    begin-some : group.numbers.b ≡ 0 → ⊥
     unfolding with_packet begun
     begin-some z = absurd (omega (arith, begin-packet.some, begun-so.many, same-many))
 
@@ -318,30 +316,30 @@ EndedAs t u = (ms rs : List ℕ) → whole u (nothing holding_shape).marks (noth
 counted-so : (g : Going) (s : Session) (at : ℕ) (m : Measured s at g) → g.octets ≡ at + held_octets (whole g.standing m.marks m.room)
 counted-so g s at m = m.counted ∙ ap (λ (y : Session). at + held_octets y) (sym m.session)
 
-module _ (g : Going) (h : Heard) (d : Decision) (x : DecidesOf g.standing h d) where
+module _ (g : Going) (h : Heard) (d : Result Decision Refusal) (x : DecidesOf g.standing h d) where
   -- octet 0 and the entries are there, packet n is one of eight, and the lost frames and the places are few
-  pub weigh-begun : (k : GroupNumbers) (n lost : ℕ) → d ≡ decision.Begins k n lost → Measures g
+  pub weigh-begun : (k : GroupNumbers) (n lost : ℕ) → d ≡ Ok (decision.Begins k n lost) → Measures g
       → (n < 8) × (1 + k.b ≤ length h.payload) × (lost ≤ minute) × ((k.l + 1) * k.b ≤ 80)
   weigh-begun k n lost e m = begin-fits g m.so.marks m.so.room m.so.stands m.so.form h d x k n lost e
 
-  pub weigh-put : (n : ℕ) → d ≡ decision.PutIn n → Measures g → (n < 8) × (1 + g.standing.numbers.b ≤ length h.payload)
+  pub weigh-put : (n : ℕ) → d ≡ Ok (decision.PutIn n) → Measures g → (n < 8) × (1 + g.standing.numbers.b ≤ length h.payload)
   weigh-put n e m = put-fits g m.so.marks m.so.room m.so.stands m.so.form h d x n e
 
   abbrev After : Going → ℕ → Session → Type 0
   After r at s = Measured (offering capture_kind s h).session (at + length (offering capture_kind s h).octets) r
 
-  pub weighs-refused : (r : Refusal) → d ≡ decision.Refused r → Weighs (λ s. offering capture_kind s h) g g
+  pub weighs-refused : (r : Refusal) → d ≡ Err r → Weighs (λ s. offering capture_kind s h) g g
   weighs-refused r e s at m = subst (After g at) m.session (refused-measured g m.marks m.room m.stands m.form h d x at (counted-so g s at m) r e)
 
-  pub weighs-again : (n : ℕ) → d ≡ decision.Again n → Weighs (λ s. offering capture_kind s h) g g
+  pub weighs-again : (n : ℕ) → d ≡ Ok (decision.Again n) → Weighs (λ s. offering capture_kind s h) g g
   weighs-again n e s at m = subst (After g at) m.session (again-measured g m.marks m.room m.stands m.form h d x at (counted-so g s at m) n e)
 
-  pub weighs-put : (n size : ℕ) (u : Standing) → d ≡ decision.PutIn n → size ≡ length h.payload → u ≡ holding_also g.standing n
+  pub weighs-put : (n size : ℕ) (u : Standing) → d ≡ Ok (decision.PutIn n) → size ≡ length h.payload → u ≡ holding_also g.standing n
       → Weighs (λ s. offering capture_kind s h) g (record { standing = u; octets = g.octets + (size - 1 - g.standing.numbers.b) })
   weighs-put n size u e q j s at m =
       subst (After _ at) m.session (put-measured g m.marks m.room m.stands m.form h d x n e at size u (counted-so g s at m) q j)
 
-  pub weighs-begun : (k : GroupNumbers) (n lost size : ℕ) (u : Standing) → d ≡ decision.Begins k n lost → size ≡ length h.payload → u ≡ begun_with g.standing k n
+  pub weighs-begun : (k : GroupNumbers) (n lost size : ℕ) (u : Standing) → d ≡ Ok (decision.Begins k n lost) → size ≡ length h.payload → u ≡ begun_with g.standing k n
       → Weighs (λ s. offering capture_kind s h) g (record { standing = u; octets = g.octets + lost + (k.l + 1) * k.b + (size - 1 - k.b) })
   weighs-begun k n lost size u e q j s at m =
       subst (After _ at) m.session (begin-measured g m.marks m.room m.stands m.form h d x k n lost e at size u (counted-so g s at m) q j)
@@ -409,12 +407,6 @@ module _ (g : Going) (h : Heard) (d : Decision) (x : DecidesOf g.standing h d) w
       pub step-later : (r : Going) → Weighs (λ s. offering capture_kind s h) (record { standing = u; octets = g.octets }) r → Weighs (λ s. step_of capture_kind s h) g r
       step-later r z = step_then (record { standing = u; octets = g.octets }) r (later-ready u e q) z
 
--- ---- the payload of packet i has as many octets as its row says
-pub payload-long : (c : List ℕ) (i size : ℕ) → start_at c i + length_at c i ≤ length c → size ≡ two_at c (2 + 12 * i + 10) → size ≡ length (heard_at c i).payload
-unfolding heard_at
-payload-long c i size h e =
-    e ∙ sym (length-take-le (length_at c i) (drop (start_at c i) c) (omega (arith, length-drop (start_at c i) c)))
-
 -- ---- the run over the packets, one after the other
 abbrev pub run_to : List ℕ → ℕ → Step
 run_to c i = run_of capture_kind (first_session (packets_in c)) (up_to (heard_at c) i)
@@ -467,7 +459,7 @@ module _ (c : List ℕ) where
   begun-measured n e z u q =
       let st = first-stands c n e z u q in
       let w = first-whole c n e z u q in
-      let none = held_none (whole u (replicate 80 erasure) (replicate 1760 0)) st.opened (ap (λ (s : Session). s.group.b) q) in
+      let none = held_none (whole u (replicate 80 erasure) (replicate 1760 0)) st.opened (ap (λ (s : Session). s.group.numbers.b) q) in
       record {
         marks = replicate 80 erasure;
         room = replicate 1760 0;

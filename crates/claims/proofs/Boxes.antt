@@ -4,10 +4,10 @@ use mathlib.Core.Path.{◌≡◌, refl, sym, ap, subst, ◌∙◌}
 use mathlib.Core.List.{List, [], ◌∷◌}
 use mathlib.Core.Bool.{Bool, true, false, cond, ◌||◌}
 use mathlib.Core.Logic.{⊎_elim, inl, inr}
+use Rattle.session.specs.Session.{Copied}
 use Rattle.octets.proofs.Logic.{apart}
 use Rattle.frame.specs.Shape.{Voice, packets_of}
 use Rattle.holding.specs.declared.Holding.{Holding}
-use Rattle.session.specs.declared.Copied.{Copied}
 use Rattle.joining.proofs.Heads.{SameHead, head-group, head-trans, head-sym}
 use Rattle.knowledge.specs.Knowledge.{Known, unheard, known_of, Among}
 use Rattle.claims.specs.Joinings.{Way, boxes, done, outcome, OneGroup, Differ, ElseTheyJoin, NothingLost, NothingInvented, EqualKnowledge}

@@ -1,23 +1,24 @@
 -- The contracts can be met: what the definitions say is a build. Assumes nothing.
+use Rattle.std.proofs.Common.{Result}
 use Prim.Native.Nat.{ℕ}
 use mathlib.Core.Path.{◌≡◌, refl}
 use mathlib.Core.List.{List, []}
 use denote.Ref.{Bor}
 use denote.MutBor.{MutBor}
 use contract.Lifetimes.{Lfts}
+use Rattle.answers.specs.declared.Refusal.{Refusal}
 use Rattle.answers.specs.Outputs.{Made, written_of, out_after}
 use Rattle.entries.specs.Kind.{kind_of}
 use Rattle.form.specs.Agreed.{vocoder_of, voice_for}
 use Rattle.frame.specs.Shape.{holding_shape}
 use Rattle.packet.specs.Writing.{packet_made, header_free_made}
-use Rattle.session.specs.Session.{offered, pour_made, after_pour}
+use Rattle.session.specs.Session.{Offered, offered, pour_made, after_pour}
 use Rattle.session.specs.declared.Session.{Session}
 use Rattle.lending.specs.Calls.{offer_answer, offer_octets, pour_of, pour_octets}
 use Rattle.lending.specs.Laid.{session_voice}
-use Rattle.session.specs.declared.Taken.{Taken}
-use Rattle.landing.specs.Host.{CountTold, count_told, taken_after, WriteTold, write_told, write_after, taken_place, place_after}
+use Rattle.landing.specs.Host.{CountTold, count_told, count_after, WriteTold, write_told, write_after, fault_place, place_after}
 use Rattle.claims.specs.Call.{Call, WithPlace, Passed, Returned, Ended, Outcome, Build}
-use Rattle.claims.specs.Calls.Lent.{LentSessionLost, LentSessionOutWritten}
+use Rattle.claims.specs.Calls.Lent.{LentSessionLost, LentSessionOutWritten, LentWholeSessionOut}
 use Rattle.claims.specs.Calls.Landing as landing
 use Rattle.claims.specs.Calls.Packet as packet
 use Rattle.claims.specs.Calls.Session as session
@@ -75,26 +76,32 @@ header-free-built = record {
 
 offer-built : Build session.offer
 offer-built = record {
-  run = λ g o. (offered (voice_for g.0.form) g.0 g.1.0 g.1.1.0 g.1.1.1.0 g.1.1.1.1, tt);
-  meets = λ g o. exactly {call = session.offer} ([], tt)
-      (g.0, (g.1.0, (g.1.1.0, (g.1.1.1.0, (lies g.1.1.1.1, tt)))))
-      (offered (voice_for g.0.form) g.0 g.1.0 g.1.1.0 g.1.1.1.0 g.1.1.1.1)
-      (g.0, (g.1.0, (g.1.1.0, (g.1.1.1.0, (lies g.1.1.1.1, tt)))))
+  run = λ g l. ((made g l.session).answer, record { session = (made g l.session).session });
+  meets = λ g l. exactly {call = session.offer} ([], ([], tt))
+      (is-lent-so l.session, (g.0, (g.1.0, (g.1.1.0, (lies g.1.1.1, tt)))))
+      (made g l.session).answer
+      (is-lent-so (made g l.session).session, (g.0, (g.1.0, (g.1.1.0, (lies g.1.1.1, tt)))))
       refl;
 }
+  where
+    made : (session.offer).Given → Session → Offered
+    made g s = offered (voice_for s.form) s g.0 g.1.0 g.1.1.0 g.1.1.1
 
 pour-built : Build session.pour
 pour-built = record {
-  run = λ s o. (record { answer = written_of (made s) o.out; session = after_pour holding_shape s (written_of (made s) o.out) }, record { out = out_after (made s) o.out });
-  meets = λ s o. exactly {call = session.pour} ([], tt)
-      (s, (is-lent-so o.out, tt))
-      (record { answer = written_of (made s) o.out; session = after_pour holding_shape s (written_of (made s) o.out) })
-      (s, (is-lent-so (out_after (made s) o.out), tt))
+  run = λ g l. (written_of (made l.session) l.out, record { session = after l; out = out_after (made l.session) l.out });
+  meets = λ g l. exactly {call = session.pour} ([], ([], tt))
+      (is-lent-so l.session, (is-lent-so l.out, tt))
+      (written_of (made l.session) l.out)
+      (is-lent-so (after l), (is-lent-so (out_after (made l.session) l.out), tt))
       (record { answer = refl; output = refl }, refl);
 }
   where
     made : Session → Made
     made s = pour_made (voice_for s.form) s
+
+    after : LentWholeSessionOut → Session
+    after l = after_pour holding_shape l.session (written_of (made l.session) l.out)
 
 -- ---- what is told is the numbers that are told
 told-count : (c : CountTold) → count_told (count-seen c).0 (count-seen c).1.count ≡ c
@@ -116,14 +123,14 @@ host-offer-built = record {
       (told-count (told g o), refl, refl);
 }
   where
-    taken : (landing.lv_session_offer).Given → WithPlace LentSessionLost → Taken
+    taken : (landing.lv_session_offer).Given → WithPlace LentSessionLost → Result ℕ Refusal
     taken g o = offer_answer (session_voice o.rest.session) o.rest.session g.0 g.1.0 g.1.1.0 g.1.1.1
 
     told : (landing.lv_session_offer).Given → WithPlace LentSessionLost → CountTold
-    told g o = taken_after (taken g o) o.rest.lost
+    told g o = count_after (taken g o) o.rest.lost
 
     place : (landing.lv_session_offer).Given → WithPlace LentSessionLost → ℕ
-    place g o = place_after (taken_place (taken g o)) o.place
+    place g o = place_after (fault_place (taken g o)) o.place
 
     after : (landing.lv_session_offer).Given → WithPlace LentSessionLost → List ℕ
     after g o = offer_octets (session_voice o.rest.session) o.rest.session g.0 g.1.0 g.1.1.0 g.1.1.1

@@ -1,4 +1,5 @@
 -- What a build of a call does, by the contract that it meets. Assumes nothing.
+use Rattle.std.proofs.Common.{Result, Ok, Err}
 use Prim.Native.Nat.{ℕ, ◌≤◌}
 use mathlib.Core.Path.{◌≡◌, refl, sym, ap, subst, ◌∙◌}
 use mathlib.Core.List.{List, ◌++◌}
@@ -8,24 +9,22 @@ use lib.Dec.{leb}
 use lib.ListN.{length, take, drop}
 use lib.Seq.{take_at}
 use contract.Lifetimes.{Lfts}
+use Rattle.answers.specs.declared.Refusal.{Refusal}
 use Rattle.octets.specs.Octets.{over}
 use Rattle.octets.proofs.Logic.{apart}
 use Rattle.answers.specs.Outputs.{Made, octets, refused_output, written_of, out_after, Writes}
 use Rattle.answers.specs.declared.Refusal.TheVariants.{NoRoom}
-use Rattle.answers.specs.declared.Written.{Written}
-use Rattle.answers.specs.declared.Written.TheVariants as written
 use Rattle.answers.proofs.OutputsLaws.{writes-octets}
 use Rattle.entries.specs.Kind.{kind_of}
 use Rattle.form.specs.declared.Form.{Form}
 use Rattle.form.specs.Agreed.{vocoder_of, voice_for}
 use Rattle.frame.specs.Shape.{holding_shape}
 use Rattle.packet.specs.Writing.{packet_made, header_free_made}
-use Rattle.session.specs.Session.{offered, pour_made, after_pour}
+use Rattle.session.specs.Session.{Offered, offered, pour_made, after_pour}
 use Rattle.session.specs.declared.Session.{Session}
-use Rattle.session.specs.declared.Offered.{Offered}
 use Rattle.lending.specs.Calls.{offer_answer, offer_octets, pour_of}
 use Rattle.lending.specs.Laid.{session_voice}
-use Rattle.landing.specs.Host.{count_told, taken_after, write_told, write_after, taken_place, place_after}
+use Rattle.landing.specs.Host.{count_told, count_after, write_told, write_after, fault_place, place_after}
 use Rattle.claims.specs.Call.{Call, WithPlace, Passed, Returned, Ended, Outcome, Build}
 use Rattle.claims.specs.Calls.Lent.{LentSessionLost, LentSessionOutWritten}
 use Rattle.claims.specs.Calls.Landing as landing
@@ -52,26 +51,26 @@ pub record ToWrite (made : Made) (out : List ℕ) (k : ℕ) : Type 0 where
   pub count : k ≡ length w
   pub output : out_after made out ≡ w ++ drop (length w) out
 
-pub to_write : (made : Made) (out : List ℕ) (k : ℕ) → written_of made out ≡ written.Octets k → ToWrite made out k
+pub to_write : (made : Made) (out : List ℕ) (k : ℕ) → written_of made out ≡ Ok k → ToWrite made out k
 unfolding written_of out_after
 to_write (refused_output r) out k e = apart (cc)
 to_write (octets u) out k e = go (leb (length u) (length out)) refl e
   where
-    same : {a b : ℕ} → written.Octets a ≡ written.Octets b → b ≡ a
+    same : {a b : ℕ} → ◌≡◌ {A = Result ℕ Refusal} (Ok a) (Ok b) → b ≡ a
     same q = cc
 
-    go : (t : Bool) → leb (length u) (length out) ≡ t → cond t (written.Octets (length u)) (written.Refused NoRoom) ≡ written.Octets k → ToWrite (octets u) out k
+    go : (t : Bool) → leb (length u) (length out) ≡ t → cond t (Ok (length u)) (Err NoRoom) ≡ Ok k → ToWrite (octets u) out k
     go false f x = apart (cc)
     go true f x = record { w = u; is = refl; count = same x; output = ap (λ (t : Bool). cond t (u ++ drop (length u) out) out) f }
 
 -- so what stands first in its buffer is that
-pub wrote-made : (made : Made) (out : List ℕ) (r : Written) (after w : List ℕ) → Writes made out r after → r ≡ written.Octets (length w) → take (length w) after ≡ w → made ≡ octets w
+pub wrote-made : (made : Made) (out : List ℕ) (r : Result ℕ Refusal) (after w : List ℕ) → Writes made out r after → r ≡ Ok (length w) → take (length w) after ≡ w → made ≡ octets w
 wrote-made made out r after w p c f =
     let x = to_write made out (length w) (sym p.answer ∙ c) in
     x.is ∙ ap octets (sym (take_at x.w (drop (length x.w) out) (length w) (sym x.count)) ∙ ap (take (length w)) (sym (p.output ∙ x.output)) ∙ f)
 
 -- and where there is room, it is written
-pub fits-written : (w out : List ℕ) → length w ≤ length out → Writes (octets w) out (written.Octets (length w)) (w ++ drop (length w) out)
+pub fits-written : (w out : List ℕ) → length w ≤ length out → Writes (octets w) out (Ok (length w)) (w ++ drop (length w) out)
 unfolding over
 fits-written w out h = writes-octets (octets w) out w _ (length w) refl h refl (ap (λ (i : ℕ). w ++ drop i out) (sym (zero-add (length w))))
 
@@ -89,33 +88,37 @@ pub writes-header-free-so : (build : Build packet.write_header_free) (form : For
 writes-header-free-so build form es out =
     by_name (λ g o x y. Writes (header_free_made (kind_of (vocoder_of g.0)) g.0 g.1) o.out x y.out) (λ κs a x e p. p) (build.meets (form, es) (record { out = out }))
 
-pub offer-told : {s : Session} {source sequence timestamp : ℕ} {p : List ℕ} {x : Offered} → Outcome session.offer (s, (source, (sequence, (timestamp, p)))) tt x tt →
-    x ≡ offered (voice_for s.form) s source sequence timestamp p
-offer-told o = by_name (λ g l x y. x ≡ offered (voice_for g.0.form) g.0 g.1.0 g.1.1.0 g.1.1.1.0 g.1.1.1.1) (λ κs a x e p. p) o
+pub offer-told : {s after : Session} {source sequence timestamp : ℕ} {p : List ℕ} {x : Result ℕ Refusal} →
+    Outcome session.offer (source, (sequence, (timestamp, p))) (record { session = s }) x (record { session = after }) →
+    ◌≡◌ {A = Offered} (record { answer = x; session = after }) (offered (voice_for s.form) s source sequence timestamp p)
+offer-told o =
+    by_name (λ g l x y. ◌≡◌ {A = Offered} (record { answer = x; session = y.session }) (offered (voice_for l.session.form) l.session g.0 g.1.0 g.1.1.0 g.1.1.1))
+    (λ κs a x e p. p) o
 
 pub offers-so : (build : Build session.offer) (s : Session) (source sequence timestamp : ℕ) (p : List ℕ) →
-    (build.run (s, (source, (sequence, (timestamp, p)))) tt).0 ≡ offered (voice_for s.form) s source sequence timestamp p
-offers-so build s source sequence timestamp p = offer-told (build.meets (s, (source, (sequence, (timestamp, p)))) tt)
+    let r = build.run (source, (sequence, (timestamp, p))) (record { session = s }) in
+    ◌≡◌ {A = Offered} (record { answer = r.0; session = r.1.session }) (offered (voice_for s.form) s source sequence timestamp p)
+offers-so build s source sequence timestamp p = offer-told (build.meets (source, (sequence, (timestamp, p))) (record { session = s }))
 
 pub pours-so : (build : Build session.pour) (s : Session) (out : List ℕ) →
-    let r = build.run s (record { out = out }) in
-    Writes (pour_made (voice_for s.form) s) out r.0.answer r.1.out × (r.0.session ≡ after_pour holding_shape s r.0.answer)
+    let r = build.run tt (record { session = s; out = out }) in
+    Writes (pour_made (voice_for s.form) s) out r.0 r.1.out × (r.1.session ≡ after_pour holding_shape s r.0)
 pours-so build s out =
-    by_name (λ g o x y. Writes (pour_made (voice_for g.form) g) o.out x.answer y.out × (x.session ≡ after_pour holding_shape g x.answer))
-    (λ κs a x e p. p) (build.meets s (record { out = out }))
+    by_name (λ g l x y. Writes (pour_made (voice_for l.session.form) l.session) l.out x y.out × (y.session ≡ after_pour holding_shape l.session x))
+    (λ κs a x e p. p) (build.meets tt (record { session = s; out = out }))
 
 -- ---- the same of the C calls, on lent octets
 pub host-offer-told : {o after : WithPlace LentSessionLost} {source sequence timestamp : ℕ} {p : List ℕ} {x : ℕ} →
     Outcome landing.lv_session_offer (source, (sequence, (timestamp, p))) o x after →
     let s = o.rest.session in
-    (count_told x after.rest.lost ≡ taken_after (offer_answer (session_voice s) s source sequence timestamp p) o.rest.lost)
-    × (after.place ≡ place_after (taken_place (offer_answer (session_voice s) s source sequence timestamp p)) o.place)
+    (count_told x after.rest.lost ≡ count_after (offer_answer (session_voice s) s source sequence timestamp p) o.rest.lost)
+    × (after.place ≡ place_after (fault_place (offer_answer (session_voice s) s source sequence timestamp p)) o.place)
     × (after.rest.session ≡ offer_octets (session_voice s) s source sequence timestamp p)
 host-offer-told c =
     by_name (λ g o x y.
     let s = o.rest.session in
-    (count_told x y.rest.lost ≡ taken_after (offer_answer (session_voice s) s g.0 g.1.0 g.1.1.0 g.1.1.1) o.rest.lost)
-    × (y.place ≡ place_after (taken_place (offer_answer (session_voice s) s g.0 g.1.0 g.1.1.0 g.1.1.1)) o.place)
+    (count_told x y.rest.lost ≡ count_after (offer_answer (session_voice s) s g.0 g.1.0 g.1.1.0 g.1.1.1) o.rest.lost)
+    × (y.place ≡ place_after (fault_place (offer_answer (session_voice s) s g.0 g.1.0 g.1.1.0 g.1.1.1)) o.place)
     × (y.rest.session ≡ offer_octets (session_voice s) s g.0 g.1.0 g.1.1.0 g.1.1.1))
     (λ κs a x e p. p) c
 

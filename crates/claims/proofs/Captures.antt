@@ -1,4 +1,5 @@
 -- What holds of every capture. Assumes nothing.
+use Rattle.std.proofs.Common.{Ok}
 use Prim.Native.Nat.{ℕ}
 use mathlib.Core.Path.{◌≡◌, refl, ap, ap₂, ◌∙◌}
 use mathlib.Core.List.{List, [], ◌∷◌, ◌++◌, map, append-nil}
@@ -13,7 +14,6 @@ use Rattle.form.specs.declared.Form.{Form}
 use Rattle.pouring.specs.Pouring.{in_time}
 use Rattle.session.specs.Session.{never_opened, fresh, vacant, form_right, is_open, refuse, received, offered, pour_made}
 use Rattle.session.specs.declared.Session.{Session}
-use Rattle.session.specs.declared.Taken.TheVariants.{Accepted}
 use Rattle.answers.specs.declared.Refusal.TheVariants.{AnotherSource, NotApplicable}
 use Rattle.holding.proofs.GroupLaws.{nothing_is}
 use Rattle.capture.specs.Capture.{Heard, packets_in}
@@ -107,19 +107,19 @@ nothing_is_larger c g = largest-is capture_kind table_fits table-erases c refl g
 
 -- ---- demand 3 through a capture
 -- a packet that is accepted is taken, and what was lost before it is recorded
-accepted-offer : (kind : Kind) (s : Session) (h : Heard) (lost : ℕ) → (offered_to kind.table s h).answer ≡ Accepted lost →
+accepted-offer : (kind : Kind) (s : Session) (h : Heard) (lost : ℕ) → (offered_to kind.table s h).answer ≡ Ok lost →
     Leaves (offered_to kind.table s h).session (replicate lost kind.erasure) (offering kind s h)
 unfolding offering taken_of
 accepted-offer kind s h lost e = rw e (record { session = refl; octets = refl })
 
-accepted-step : (kind : Kind) (s : Session) (h : Heard) (lost : ℕ) → (offered_to kind.table s h).answer ≡ Accepted lost →
+accepted-step : (kind : Kind) (s : Session) (h : Heard) (lost : ℕ) → (offered_to kind.table s h).answer ≡ Ok lost →
     Leaves (offered_to kind.table s h).session (replicate lost kind.erasure) (step_of kind s h)
 unfolding is_twelve
 accepted-step kind s h lost e = once kind s (offered_to kind.table s h).session (replicate lost kind.erasure) h (ap is_twelve e) (accepted-offer kind s h lost e)
 
 -- one that is answered 12 pours the held group first
 poured-step : (kind : Kind) (s t : Session) (w : List ℕ) (h : Heard) (lost : ℕ) → is_twelve (offered_to kind.table s h).answer ≡ true → Leaves t w (pouring kind.table s) →
-    (offered_to kind.table t h).answer ≡ Accepted lost → Leaves (offered_to kind.table t h).session (w ++ replicate lost kind.erasure) (step_of kind s h)
+    (offered_to kind.table t h).answer ≡ Ok lost → Leaves (offered_to kind.table t h).session (w ++ replicate lost kind.erasure) (step_of kind s h)
 unfolding step_of readied and_then
 poured-step kind s t w h lost e p a =
     let x = accepted-offer kind t h lost a in

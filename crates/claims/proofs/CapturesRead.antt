@@ -34,10 +34,9 @@ use Rattle.knowledge.proofs.Cells.{packet-sized}
 use Rattle.knowledge.proofs.PacketLaws.{right-listed, erased-frame}
 use Rattle.knowledge.proofs.JoinLaws.{box-sound, box-blank, right-held}
 use Rattle.knowledge.proofs.PutLaws.{put-box, begun-keeps}
-use Rattle.session.specs.Session.{never_opened, fresh, vacant, is_open, refuse, accept, with_group, begins, arrival, offered, pour_made}
+use Rattle.session.specs.Session.{Offered, never_opened, fresh, vacant, is_open, refuse, accept, with_group, begins, arrival, offered, pour_made}
 use Rattle.session.specs.Session.{ended}
 use Rattle.session.specs.declared.Session.{Session}
-use Rattle.session.specs.declared.Offered.{Offered}
 use Rattle.session.proofs.Ends.{Placed, no, again, put, first, next, Ends, refuses, places, offer-ends}
 use Rattle.capture.specs.Capture.{Heard, packets_in}
 use Rattle.capture.specs.Run.{Step, still, and_then, first_session, offered_to, taken_of, offering, poured_of, pouring, is_twelve, readied, step_of, run_of}
@@ -48,7 +47,7 @@ use Rattle.claims.specs.Captures.{GivesARecording}
 
 -- ---- the frames of a box are as the table has them
 module _ (v : Voice) (r : HasRoom v) (h : Holding) (x : Box v h) where
-  frame-listed : (n k : ℕ) → n < packets_of v.shape → k < h.b → Listed v.table (frame_of v (bundle_at v.shape h n) k)
+  frame-listed : (n k : ℕ) → n < packets_of v.shape → k < h.numbers.b → Listed v.table (frame_of v (bundle_at v.shape h n) k)
   frame-listed n k p q = go (held_at h n) refl
     where
       few : k < 10
@@ -59,16 +58,16 @@ module _ (v : Voice) (r : HasRoom v) (h : Holding) (x : Box v h) where
 
       go : (b : Bool) → held_at h n ≡ b → Listed v.table (frame_of v here k)
       go true e =
-          let a = right-listed v r.short r.erasing h.b (box-sound v h x).few here (packet-sized v.shape h n x.shaped p) (right-held v h x n p e).1 in
-          let l = every-at (Listed v.table) (up_to (frame_of v here) h.b) k a (omega (arith, q, length-upTo (frame_of v here) h.b)) in
-          rw (← upTo-at (frame_of v here) h.b k no_frame q) l
+          let a = right-listed v r.short r.erasing h.numbers.b (box-sound v h x).few here (packet-sized v.shape h n x.shaped p) (right-held v h x n p e).1 in
+          let l = every-at (Listed v.table) (up_to (frame_of v here) h.numbers.b) k a (omega (arith, q, length-upTo (frame_of v here) h.numbers.b)) in
+          rw (← upTo-at (frame_of v here) h.numbers.b k no_frame q) l
       go false e =
           let f : frame_of v here k ≡ record { type = erasure; body = [] } = ap (λ p. frame_of v p k) (box-blank v h x n p e) ∙ erased-frame v r.erasing k few in
           let z = erasure-listed v.table r.erasing in
           let l : Listed v.table (record { type = erasure; body = [] }) = record { type_known = z.0; octets = sym z.1 } in
           rw f l
 
-  rows-listed : (m b : ℕ) → m ≤ packets_of v.shape → b ≤ h.b → AllListed v.table (rows v h.marks h.room m b)
+  rows-listed : (m b : ℕ) → m ≤ packets_of v.shape → b ≤ h.numbers.b → AllListed v.table (rows v h.marks h.room m b)
   unfolding rows row
   rows-listed m zero p q = tt
   rows-listed m (suc b) p q =
@@ -117,7 +116,7 @@ record Good (v : FrameTable) (a : Step) : Type 0 where
 module _ (kind : Kind) (r : HasRoom (voice_with kind.table)) (u : T (single kind.table kind.table)) (lists : T (lists_erasure kind)) where
   -- a packet put into a box, and into a group just begun
   put-fine : (s : Session) (q t l n : ℕ) (fs : List Frame) → IsPacket kind.table l n fs → Fine kind.table s → is_nothing holding_shape s.group ≡ false
-      → l ≡ s.group.l → length fs ≡ s.group.b → Box (voice_with kind.table) (with_packet holding_shape s.group n (laid holding_shape fs))
+      → l ≡ s.group.numbers.l → length fs ≡ s.group.numbers.b → Box (voice_with kind.table) (with_packet holding_shape s.group n (laid holding_shape fs))
   put-fine s q t l n fs i (none z) e a b = let y : true ≡ false = sym z ∙ e in apart (cc)
   put-fine s q t l n fs i (boxed x) e a b =
       put-box (voice_with kind.table) r.short r.erasing s.group
@@ -137,7 +136,7 @@ module _ (kind : Kind) (r : HasRoom (voice_with kind.table)) (u : T (single kind
   placed-good s q t l n fs i f o (again a e) = rw e (record { fine = f; entries = entries_none kind.table })
   placed-good s q t l n fs i f o (put a k b c e) = rw e (record { fine = boxed (put-fine s q t l n fs i f a b c); entries = entries_none kind.table })
   placed-good s q t l n fs i f o (first a b e) = rw e (record { fine = boxed (begun-fine s.source n _ fs i refl); entries = entries_none kind.table })
-  placed-good s q t l n fs i f o (next a b lost c d e) = rw e (record { fine = boxed (begun-fine s.source n _ fs i refl); entries = entries-lost kind lists lost })
+  placed-good s q t l n fs i f o (next a g b lost c d e) = rw e (record { fine = boxed (begun-fine s.source n _ fs i refl); entries = entries-lost kind lists lost })
 
   offer-good : (s : Session) (h : Heard) → Fine kind.table s → Good kind.table (offering kind s h)
   unfolding offering offered_to taken_of refuse
@@ -162,7 +161,7 @@ module _ (kind : Kind) (r : HasRoom (voice_with kind.table)) (u : T (single kind
           apart (cc)
       go true true e (boxed x) =
           let d = box-sound (voice_with kind.table) s.group x in
-          let l = rows-listed (voice_with kind.table) r s.group x (s.group.l + 1) s.group.b (omega (arith, d.low)) (omega arith) in
+          let l = rows-listed (voice_with kind.table) r s.group x (s.group.numbers.l + 1) s.group.numbers.b (omega (arith, d.low)) (omega arith) in
           record { fine = none (nothing_is holding_shape); entries = record { fs = in_time (voice_with kind.table) s.group; listed = l; is = refl } }
 
   then-good : (a : Step) (f : Session → Step) → Good kind.table a → ((t : Session) → Fine kind.table t → Good kind.table (f t)) → Good kind.table (and_then a f)

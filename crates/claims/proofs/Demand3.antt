@@ -14,9 +14,8 @@ use Rattle.packet.specs.Writing.{packet_made, header_free_made}
 use Rattle.pouring.specs.Pouring.{in_time}
 use Rattle.numbers.specs.declared.GroupNumbers.{GroupNumbers}
 use Rattle.numbers.proofs.PlaceLaws.{same_numbers}
-use Rattle.session.specs.Session.{with_group, offered}
+use Rattle.session.specs.Session.{Offered, with_group, offered}
 use Rattle.session.specs.declared.Session.{Session}
-use Rattle.session.specs.declared.Offered.{Offered}
 use Rattle.session.proofs.Ends.{only-group}
 use Rattle.claims.specs.Call.{Build}
 use Rattle.claims.specs.Calls.Session as session
@@ -166,8 +165,9 @@ module _ (writers : Writers) (g : WrittenGroup writers) where
       poured-through : (pour : Build session.pour) → PouredThrough pour g (offer_all s t (n ∷ ns)) (n ∷ ns)
       poured-through pour =
           let u = offer_all s t (n ∷ ns) in
-          let made : (out : List ℕ) → Writes (octets (entries_of places)) out (pour.run u (record { out = out })).0.answer (pour.run u (record { out = out })).1.out
-          = λ out. subst (λ (m : Made). Writes m out (pour.run u (record { out = out })).0.answer (pour.run u (record { out = out })).1.out) delivered.poured (pours-so pour u out).0 in
+          let made : (out : List ℕ) → Writes (octets (entries_of places)) out (pour.run tt (record { session = u; out = out })).0 (pour.run tt (record { session = u; out = out })).1.out
+          = λ out. subst (λ (m : Made). Writes m out (pour.run tt (record { session = u; out = out })).0 (pour.run tt (record { session = u; out = out })).1.out)
+          delivered.poured (pours-so pour u out).0 in
           record {
             frames = places;
             restored = restores;

@@ -1,20 +1,20 @@
 -- Any two outcomes that a call's contract allows are equal: each is what the contract says of the same arguments. Assumes nothing.
+use Rattle.std.proofs.Common.{Result}
 use Prim.Native.Nat.{ℕ}
 use mathlib.Core.Path.{◌≡◌, sym, ap, ap₂, ◌∙◌}
+use mathlib.Core.Bool.{Bool}
 use mathlib.Core.List.{List, []}
 use denote.Ref.{Bor}
+use Rattle.answers.specs.declared.Refusal.{Refusal}
 use Rattle.answers.specs.Outputs.{Made, Writes}
 use Rattle.frame.specs.Places.{VeryPart}
-use Rattle.answers.specs.declared.Written.{Written}
 use Rattle.bundle.specs.declared.Bundle.{Bundle}
-use Rattle.session.specs.Session.{after_pour}
+use Rattle.session.specs.Session.{Offered, Started, Dropped, after_pour}
 use Rattle.session.specs.declared.Session.{Session}
-use Rattle.session.specs.declared.Offered.{Offered}
-use Rattle.session.specs.declared.Stood.{Stood}
 use Rattle.lending.specs.Calls.{pour_octets}
-use Rattle.claims.specs.Calls.Lent.{LentMarksRoom}
+use Rattle.claims.specs.Calls.Lent.{LentMarksRoom, LentWholeSession, LentWholeStandingMarksRoom}
 use Rattle.claims.specs.Determined.{Determined}
-use Rattle.claims.proofs.Seen.{standing-in, marks-room-lent, dst-lent, out-lent, session-lent, holding-lent, alone, reference, only, answer-with, poured}
+use Rattle.claims.proofs.Seen.{standing-in, parts-lent, whole-lent, dst-lent, out-lent, session-lent, holding-lent, alone, reference, only, answer-with, poured}
 use Rattle.claims.proofs.Seen.{lent-poured, packet-seen, frame-seen, count-seen, write-seen, pour-seen}
 use Rattle.claims.proofs.Seen.{holding-seen, lost-seen, at_place, offer-seen-at}
 
@@ -35,11 +35,11 @@ lies : {octets : Bor (List ℕ)} {start : ℕ} {content : List ℕ} {x y : Bor (
 lies p q = by_both (λ (o : List ℕ) (b : ℕ × ℕ). ((o, b), tt)) (p.holds, p.lies) (q.holds, q.lies)
 
 -- ---- of a call that writes; and of one that pours, with the session after such an answer
-writes : {made : Made} {before o w : List ℕ} {x y : Written} → Writes made before x o → Writes made before y w →
+writes : {made : Made} {before o w : List ℕ} {x y : (Result ℕ Refusal)} → Writes made before x o → Writes made before y w →
     answer-with out-lent x o ≡ answer-with out-lent y w
 writes p q = by_both (answer-with out-lent) (p.answer, p.output) (q.answer, q.output)
 
-pours : {S B : Type 0} (after : Written → S) (seen : Written → List ℕ → S → B) {made : Made} {before o w : List ℕ} {x y : Written} {s t : S} →
+pours : {S B : Type 0} (after : Result ℕ Refusal → S) (seen : Result ℕ Refusal → List ℕ → S → B) {made : Made} {before o w : List ℕ} {x y : (Result ℕ Refusal)} {s t : S} →
     Writes made before x o × (s ≡ after x) → Writes made before y w × (t ≡ after y) → seen x o s ≡ seen y w t
 pours after seen p q =
     let e = writes p.0 q.0 in
@@ -49,8 +49,22 @@ pours after seen p q =
 abbrev bundle-seen : Bundle → Unit {0} × LentMarksRoom
 bundle-seen p = (tt, record { marks = p.marks; room = p.room })
 
-abbrev taken-seen : Offered → Stood × LentMarksRoom
-taken-seen o = (record { answer = o.answer; standing = standing-in o.session }, marks-room-lent o.session)
+abbrev taken-seen : Offered → (Result ℕ Refusal) × LentWholeStandingMarksRoom
+taken-seen o = (o.answer, parts-lent o.session)
+
+-- ---- of a session that is lent whole
+abbrev offered-seen : Offered → (Result ℕ Refusal) × LentWholeSession
+offered-seen o = (o.answer, whole-lent o.session)
+
+abbrev opened-seen : Started → (Result Unit Refusal) × LentWholeSession
+opened-seen o = (o.answer, whole-lent o.session)
+
+abbrev dropped-seen : Dropped → (Result Unit Refusal) × LentWholeSession
+dropped-seen o = (o.answer, whole-lent o.session)
+
+-- ---- of the parts of a holding, by what they are
+abbrev parts-seen : List Bool → List ℕ → List ℕ → (List Bool × Bundle) × Unit {0}
+parts-seen h m r = ((h, record { marks = m; room = r }), tt)
 
 -- ---- every public call
 pub determined : Determined
@@ -110,12 +124,12 @@ determined = record {
   joining_join = record { equal = by alone };
   pouring_pour = record { equal = writes };
   session_never_opened = record { equal = by alone };
-  session_open = record { equal = by alone };
+  session_open = record { equal = by opened-seen };
   session_is_open = record { equal = by alone };
-  session_offer = record { equal = by alone };
+  session_offer = record { equal = by offered-seen };
   session_pour = record { equal = pours (after_pour _ _) poured };
   session_copy_out = record { equal = by alone };
-  session_end = record { equal = by alone };
+  session_end = record { equal = by (only whole-lent) };
   capture_room = record { equal = by alone };
   capture_judge = record { equal = by alone };
   capture_record = record { equal = by_both (answer-with out-lent) };
@@ -145,8 +159,8 @@ determined = record {
   packet_write_agreed = record { equal = writes };
   holding_read = record { equal = by alone };
   holding_lost_between = record { equal = by alone };
-  session_open_agreed = record { equal = by alone };
-  session_drop_group = record { equal = by alone };
+  session_open_agreed = record { equal = by opened-seen };
+  session_drop_group = record { equal = by dropped-seen };
   lending_drop_group = record { equal = by_both (answer-with session-lent) };
   lending_read_holding = record { equal = by alone };
   lending_lost_between = record { equal = by alone };
@@ -171,4 +185,7 @@ determined = record {
   holding_same_packet_in = record { equal = by alone };
   pouring_pour_held_in = record { equal = writes };
   session_is_open_in = record { equal = by alone };
+  bundle_cells = record { equal = by alone };
+  holding_parts = record { equal = λ p q. by_three parts-seen (p.0, p.1, p.2) (q.0, q.1, q.2) };
+  holding_packet_of = record { equal = λ p q. by alone p.0 q.0 };
 }

@@ -10,7 +10,6 @@ use Rattle.answers.specs.Answers.{number_of}
 use Rattle.answers.specs.declared.Refusal.{Refusal}
 use Rattle.answers.specs.declared.Refusal.TheVariants.{LaterGroup, ContradictsGroup, EarlierGroup}
 use Rattle.session.specs.declared.Session.{Session}
-use Rattle.session.specs.declared.Offered.{Offered}
 use Rattle.frame.specs.FrameTable.{rows_of, row_of, row_with, Frame}
 use Rattle.frame.specs.Places.{located_of, body_of, up_to}
 use Rattle.payload.specs.Payload.{packet, toc, first_cut, bodies, interleaved, one_body, read_as}
@@ -19,12 +18,12 @@ use Rattle.recording.specs.Recording.{opens_with, recording_read}
 use Rattle.payload.specs.Shown.{given_of, given_as}
 use Rattle.numbers.specs.Place.{differ, at_distance, with_held, after_pause, after_poured, decided}
 use Rattle.octets.specs.Octets.{two_at, four_at, over, any_set, same_octets, all_zero, all_below, region}
-use Rattle.holding.specs.Group.{nothing, begun, numbers_of, is_nothing, bare, with_packet, held_at, bundle_of, packet_right, right_in, sound}
+use Rattle.holding.specs.Group.{nothing, begun, is_nothing, bare, with_packet, held_at, bundle_of, packet_right, right_in, sound}
 use Rattle.holding.specs.Group.{holds}
 use Rattle.bundle.specs.Bundles.{same_bundles, not_held, mark_at, frame_of, may_stand, frame_right, frames_right}
 use Rattle.bundle.specs.LaidOut.{laid, filled, rooms}
 use Rattle.pouring.specs.Pouring.{row, rows, poured}
-use Rattle.session.specs.Session.{vacant, fresh, form_right, last_right, group_right, is_open, refuse, accept, with_group, last_numbers}
+use Rattle.session.specs.Session.{Offered, vacant, fresh, form_right, last_right, group_right, is_open, refuse, accept, with_group, poured_before}
 use Rattle.session.specs.Session.{group_before, begins, belongs, placed_by, placed, arrival, judged, received, offered, pour_made, ended}
 use Rattle.capture.specs.Capture.{end_fault, table_fault, count_fault, fault_of, good, start_at, lengths, heard_at, packets_in}
 use Rattle.capture.specs.Run.{capture_kind, capture_form, first_session, offered_to, taken_of, offering, poured_of, pouring, is_twelve, readied, step_of, run_of}
@@ -52,7 +51,7 @@ refused-by v s h q t p l n d fs e r z =
     record { refusal = r; answered = ap (λ (y : Offered). y.answer) o; by_number = refl; unchanged = ap (λ (y : Offered). y.session) o }
 
 p15 : P15
-unfolding NewBase placed group_before decided with_held at_distance numbers_of placed_by arrival
+unfolding NewBase placed group_before decided with_held at_distance placed_by arrival
 p15 = record {
   later = λ v s h q t p l n d fs e b. refused-by v s h q t p l n d fs e LaterGroup (rw (h.some, h.base, b) (simp h.length_one));
   inside = λ v s h q t p l n d fs e b. refused-by v s h q t p l n d fs e ContradictsGroup (rw (h.some, h.base, b) (simp h.length_one));
@@ -99,10 +98,10 @@ a-talk writers = record {
 
 whole-case : WholeCase
 unfolding rows_of row_of toc bodies interleaved read_as differ at_distance with_held after_pause after_poured decided two_at four_at over
-    any_set same_octets all_zero up_to nothing begun numbers_of is_nothing bare with_packet same_bundles not_held mark_at
+    any_set same_octets all_zero up_to nothing begun is_nothing bare with_packet same_bundles not_held mark_at
     may_stand frame_right frames_right held_at bundle_of packet_right right_in sound holds all_below region laid filled
     rooms frame_of row rows poured vacant fresh form_right last_right group_right is_open refuse accept with_group
-    last_numbers group_before begins belongs placed_by placed arrival judged received offered pour_made ended end_fault
+    poured_before group_before begins belongs placed_by placed arrival judged received offered pour_made ended end_fault
     table_fault count_fault fault_of good start_at lengths heard_at packets_in capture_form first_session offered_to taken_of
     offering poured_of pouring is_twelve readied step_of run_of whole_run entries_recorded capture_recording and_then
 whole-case = record {
@@ -116,10 +115,10 @@ whole-case = record {
 -- again, and one is not there
 four-answers : map (answer_of capture_kind four_packets) (0 ∷ 1 ∷ 2 ∷ 3 ∷ 4 ∷ []) ≡ four_answers
 unfolding rows_of row_of toc first_cut bodies interleaved read_as differ at_distance with_held after_pause after_poured decided two_at four_at over
-    any_set same_octets all_zero up_to nothing begun numbers_of is_nothing bare with_packet same_bundles not_held mark_at
+    any_set same_octets all_zero up_to nothing begun is_nothing bare with_packet same_bundles not_held mark_at
     may_stand frame_right frames_right held_at bundle_of packet_right right_in sound holds all_below region laid filled
     rooms frame_of row rows poured vacant fresh form_right last_right group_right is_open refuse accept with_group
-    last_numbers group_before begins belongs placed_by placed arrival judged received offered pour_made ended end_fault
+    poured_before group_before begins belongs placed_by placed arrival judged received offered pour_made ended end_fault
     table_fault count_fault fault_of good start_at lengths heard_at packets_in capture_form first_session offered_to taken_of
     offering poured_of pouring is_twelve readied step_of run_of whole_run and_then packet_answered answer_of
 four-answers = refl

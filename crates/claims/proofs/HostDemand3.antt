@@ -1,46 +1,44 @@
 -- Demand 3 from end to end, through the C calls. Assumes nothing.
+use Rattle.std.proofs.Common.{Result, Ok}
 use Prim.Native.Nat.{ℕ, ◌≤◌}
 use mathlib.Core.Path.{◌≡◌, refl, sym, ap, ap₂, subst, ◌∙◌}
 use mathlib.Core.List.{List, [], ◌∷◌, ◌++◌}
 use lib.ListN.{length, drop}
+use Rattle.answers.specs.declared.Refusal.{Refusal}
 use Rattle.octets.specs.Octets.{over}
 use Rattle.answers.specs.Outputs.{Made, octets}
-use Rattle.answers.specs.declared.Written.{Written}
 use Rattle.entries.specs.Entries.{entries_of}
 use Rattle.form.specs.Agreed.{vocoder_of, voice_for}
 use Rattle.form.specs.declared.Form.{Form}
 use Rattle.knowledge.specs.Knowledge.{Box}
 use Rattle.numbers.specs.declared.GroupNumbers.{GroupNumbers}
 use Rattle.pouring.specs.Pouring.{in_time}
-use Rattle.session.specs.Session.{pour_made}
+use Rattle.session.specs.Session.{Offered, pour_made}
 use Rattle.session.specs.declared.Session.{Session}
-use Rattle.session.specs.declared.Offered.{Offered}
-use Rattle.session.specs.declared.Taken.{Taken}
-use Rattle.session.specs.declared.Taken.TheVariants.{Accepted}
 use Rattle.lending.specs.Laid.{session_in, session_laid}
-use Rattle.lending.specs.Calls.{offer_answer, offer_octets, pour_of, lay_taken}
-use Rattle.landing.specs.Host.{CountTold, count_told, taken_after, WriteTold, write_told, write_after, written_after, with_output}
+use Rattle.lending.specs.Calls.{offer_answer, offer_octets, pour_of, lay_if}
+use Rattle.landing.specs.Host.{CountTold, count_told, count_after, WriteTold, write_told, write_after, with_output}
 use Rattle.claims.specs.Call.{Build}
 use Rattle.claims.specs.Calls.Landing as landing
 use Rattle.claims.specs.Packets.{KindsPass}
-use Rattle.claims.specs.Lent.{SessionReadsBack, NoneRemembered}
+use Rattle.claims.specs.Lent.{SessionReadsBack}
 use Rattle.claims.specs.Sessions.{lost_before}
 use Rattle.claims.specs.Offering.{Sent, sent_numbers, numbered, stamped, offer_one, offer_all, Ready, Within, HoldsExactly}
 use Rattle.claims.specs.Demand3.{LentOffer, Writers, WrittenGroup, host_offer, host_offer_all, HostAccepted, HostDemand3}
 use Rattle.claims.proofs.Joinings.{voices_have_room}
 use Rattle.claims.proofs.PacketsBack.{kinds_pass}
 use Rattle.claims.proofs.Marks.{box-marks}
-use Rattle.claims.proofs.LentBack.{session_reads_back, nothing_poured_nothing_remembered}
+use Rattle.claims.proofs.LentBack.{session_reads_back}
 use Rattle.claims.proofs.Seen.{count-seen, write-seen}
 use Rattle.claims.proofs.Offering.{begins-group, step}
 use Rattle.claims.proofs.Demand3.{offered-so, sent-so, t-source, t-numbers, t-l, delivered, restores}
 use Rattle.claims.proofs.Builds.{fits-written, host-offer-told, host-pours-so}
 
 -- what is laid out of a session whose group holds a packet is read back
-laid-back : (form : Form) (s : Session) → NoneRemembered s → Box (voice_for form) s.group → (o : List ℕ) → session_in (over o 0 (session_laid s)) ≡ s
+laid-back : (form : Form) (s : Session) → Box (voice_for form) s.group → (o : List ℕ) → session_in (over o 0 (session_laid s)) ≡ s
 unfolding SessionReadsBack KindsPass
-laid-back form s r x o =
-    session_reads_back s r x.shaped (box-marks (voice_for form) (kinds_pass (vocoder_of form)).narrows (voices_have_room.of_sessions form).erasing s.group x) o
+laid-back form s x o =
+    session_reads_back s x.shaped (box-marks (voice_for form) (kinds_pass (vocoder_of form)).narrows (voices_have_room.of_sessions form).erasing s.group x) o
 
 -- ---- packets offered by a host are those that were sent
 module _ {writers : Writers} (offer : Build landing.lv_session_offer) (g : WrittenGroup writers) (form : Form) (t : Sent (voice_for form) form)
@@ -51,23 +49,22 @@ module _ {writers : Writers} (offer : Build landing.lv_session_offer) (g : Writt
     told : (host_offer offer g o n).1.rest.lost ≡ lost
     left : session_in (host_offer offer g o n).1.rest.session ≡ (offer_one (session_in o.rest.session) t n).session
 
-  taking : (o : LentOffer) (n lost : ℕ) → (session_in o.rest.session).form ≡ form → (offer_one (session_in o.rest.session) t n).answer ≡ Accepted lost →
+  taking : (o : LentOffer) (n lost : ℕ) → (session_in o.rest.session).form ≡ form → (offer_one (session_in o.rest.session) t n).answer ≡ Ok lost →
       Box (voice_for form) (offer_one (session_in o.rest.session) t n).session.group → Taking o n lost
-  unfolding offer_answer offer_octets taken_after lay_taken
+  unfolding offer_answer offer_octets count_after lay_if
   taking o n lost f e x =
       let s = session_in o.rest.session in
       let c = host-offer-told (offer.meets (g.source, (numbered g.numbers n, (stamped g.numbers n, g.payload n))) o) in
       let q = offered-so g form t same_source same_numbers same-payload s f n in
       let a : count_told (host_offer offer g o n).0 (host_offer offer g o n).1.rest.lost ≡ count_told 0 lost
-      = c.0 ∙ ap (λ (y : Taken). taken_after y o.rest.lost) (ap (λ (y : Offered). y.answer) q ∙ e) in
+      = c.0 ∙ ap (λ (y : Result ℕ Refusal). count_after y o.rest.lost) (ap (λ (y : Offered). y.answer) q ∙ e) in
       let b : (host_offer offer g o n).1.rest.session ≡ over o.rest.session 0 (session_laid (offer_one s t n).session)
-      = c.2 ∙ ap (λ (y : Offered). lay_taken y.answer o.rest.session (session_laid y.session)) q
-      ∙ ap (λ (y : Taken). lay_taken y o.rest.session (session_laid (offer_one s t n).session)) e in
+      = c.2 ∙ ap (λ (y : Offered). lay_if y.answer o.rest.session (session_laid y.session)) q
+      ∙ ap (λ (y : Result ℕ Refusal). lay_if y o.rest.session (session_laid (offer_one s t n).session)) e in
       record {
         answered = ap (λ (y : CountTold). (count-seen y).0) a;
         told = ap (λ (y : CountTold). (count-seen y).1.count) a;
-        left = ap session_in b ∙ laid-back form (offer_one s t n).session
-            (nothing_poured_nothing_remembered.offers (voice_for form) s t.group.source _ _ (t.payload n) (nothing_poured_nothing_remembered.lent o.rest.session)) x o.rest.session;
+        left = ap session_in b ∙ laid-back form (offer_one s t n).session x o.rest.session;
       }
 
   -- one after the other
@@ -99,10 +96,10 @@ module _ {writers : Writers} (offer : Build landing.lv_session_offer) (g : Writt
 
 -- ---- pouring
 written-told : (w out : List ℕ) (k : ℕ) → length w ≤ length out → write_after (octets w) k out ≡ write_told 0 (length w) (w ++ drop (length w) out)
-unfolding write_after written_after
+unfolding write_after count_after
 written-told w out k h =
     let x = fits-written w out h in
-    ap₂ (λ (r : Written) (o : List ℕ). with_output (written_after r k) o) (sym x.answer) (sym x.output)
+    ap₂ (λ (r : Result ℕ Refusal) (o : List ℕ). with_output (count_after r k) o) (sym x.answer) (sym x.output)
 
 pub host_demand_3 : HostDemand3
 unfolding HostDemand3 pour_of

@@ -1,4 +1,5 @@
 -- No idle build meets the contracts. Assumes nothing.
+use Rattle.std.proofs.Common.{Result, Ok, Err}
 use Prim.Native.Nat.{ℕ, zero, suc, ◌+◌, ◌-◌, ◌*◌, ◌≤◌, ◌<◌}
 use mathlib.Core.Path.{◌≡◌, refl, sym, ap, ap₂, subst, ◌∙◌}
 use mathlib.Core.List.{List, [], ◌∷◌}
@@ -8,6 +9,7 @@ use lib.Dec.{eqb}
 use lib.ListN.{length, take, drop, get_or, replicate, length-replicate}
 use lib.Seq.{take_at, drop_at}
 use borrow.Author.Tests.{eq-eqb, ne_eqb}
+use Rattle.answers.specs.declared.Refusal.{Refusal}
 use Rattle.octets.proofs.Logic.{apart}
 use Rattle.answers.specs.Outputs.{octets, refused_output}
 use Rattle.answers.specs.declared.Refusal.TheVariants.{NotApplicable}
@@ -24,11 +26,10 @@ use Rattle.packet.proofs.Numbering.{place_in}
 use Rattle.pouring.specs.Pouring.{poured}
 use Rattle.session.specs.Session.{is_open, pour_made}
 use Rattle.session.specs.declared.Session.{Session}
-use Rattle.session.specs.declared.Taken.{Taken}
-use Rattle.session.specs.declared.Taken.TheVariants.{Accepted, Refused}
 use Rattle.claims.specs.Call.{Build}
+use Rattle.claims.specs.Calls.Lent.{LentWholeSession}
 use Rattle.claims.specs.Calls.Session as session
-use Rattle.claims.specs.Refusals.{RefusedOffer}
+use Rattle.claims.specs.Refusals.{Refused}
 use Rattle.claims.specs.Sessions.{lost_before, OctetCountByFormula}
 use Rattle.claims.specs.Offering.{Within, among, HoldsExactly, sent_packet}
 use Rattle.claims.specs.Missing.{is_erasure, NoErasure}
@@ -40,25 +41,25 @@ use Rattle.claims.proofs.Demand3.{accepts, sent-so, t-l, t-b, t-frames, delivere
 use Rattle.claims.proofs.Builds.{to_write, pours-so}
 
 -- ---- the first packet is accepted, and then held
-first-told : (offer : Build session.offer) (c : Case3) → (offer_through offer c.group c.session c.n).answer ≡ Accepted (lost_before holding_shape c.session c.group.numbers)
+first-told : (offer : Build session.offer) (c : Case3) → (offer_through offer c.group c.session c.n).answer ≡ Ok (lost_before holding_shape c.session c.group.numbers)
 unfolding AcceptedThrough
 first-told offer c = (accepts c.writers offer c.group c.form c.admitted c.session c.ready c.n [] (c.within, tt)).0.0
 
 pub refuses_everything : RefusesEverything
 unfolding RefusesEverything
-refuses_everything offer h c = go _ (first-told offer c) (h _)
+refuses_everything offer h c = go _ (first-told offer c) (h _ _)
   where
-    go : (x : Taken) → x ≡ Accepted (lost_before holding_shape c.session c.group.numbers) → RefusedOffer x → ⊥
-    go (Accepted lost) e i = i
-    go (Refused r) e i = apart (cc)
+    go : (x : Result ℕ Refusal) → x ≡ Ok (lost_before holding_shape c.session c.group.numbers) → Refused x → ⊥
+    go (Ok lost) e i = i
+    go (Err r) e i = apart (cc)
 
 pub invents_lost_frames : InventsLostFrames
 unfolding InventsLostFrames
 invents_lost_frames offer c k e d =
-    let z : Accepted k ≡ Accepted (lost_before holding_shape c.session c.group.numbers) = sym e ∙ first-told offer c in
+    let z : Ok k ≡ Ok (lost_before holding_shape c.session c.group.numbers) = sym e ∙ first-told offer c in
     d (same z)
   where
-    same : {a b : ℕ} → Accepted a ≡ Accepted b → a ≡ b
+    same : {a b : ℕ} → ◌≡◌ {A = Result ℕ Refusal} (Ok a) (Ok b) → a ≡ b
     same q = cc
 
 -- what is held after these packets
@@ -77,7 +78,7 @@ first_holds offer c = some-held (voice_for c.form) _ (held_after offer c [] (c.w
 pub stores_nothing : StoresNothing
 unfolding StoresNothing
 stores_nothing offer h c =
-    let z : true ≡ false = sym c.ready.vacant ∙ ap (λ (s : Session). is_nothing holding_shape s.group) (sym (h _)) ∙ first_holds offer c in
+    let z : true ≡ false = sym c.ready.vacant ∙ ap (λ (l : LentWholeSession). is_nothing holding_shape l.session.group) (sym (h _ _)) ∙ first_holds offer c in
     apart (cc)
 
 pub nods_at_later : NodsAtLater
@@ -90,7 +91,7 @@ nods_at_later offer h c k i d =
     let low : k < packets_of holding_shape = omega (arith, t-l c.writers c.group c.form c.admitted, g.low) in
     let p : known_of v both.group k ≡ sent_packet g k = (held_after offer c (k ∷ []) (c.within, (i, tt))).part.knows k low ∙ rw (ne_eqb k c.n d, eq-eqb k k refl) in
     let q : known_of v first.group k ≡ unheard = (held_after offer c [] (c.within, tt)).part.knows k low ∙ rw (ne_eqb k c.n d) in
-    let e : both.group ≡ first.group = ap (λ (s : Session). s.group) (h _ (first_holds offer c)) in
+    let e : both.group ≡ first.group = ap (λ (l : LentWholeSession). l.session.group) (h _ _ (first_holds offer c)) in
     let z : true ≡ false = ap (λ (w : Known). w.held) (sym p ∙ ap (λ (x : Holding). known_of v x k) e ∙ q) in
     apart (cc)
 

@@ -1,4 +1,5 @@
 -- Joining: every order and grouping, difference, loss, invention, knowledge and places. Assumes nothing.
+use Rattle.std.proofs.Common.{Ok, Err}
 use Prim.Native.Nat.{◌+◌}
 use mathlib.Core.Bool.{Bool, true, false}
 use mathlib.Core.Path.{◌≡◌, refl, sym, ap, subst, ◌∙◌}
@@ -13,12 +14,10 @@ use Rattle.answers.specs.declared.Refusal.TheVariants.{PacketDiffers}
 use Rattle.frame.proofs.FrameTableLaws.{rows-within, rows_fit, rows-erases}
 use Rattle.form.specs.Agreed.{vocoder_of}
 use Rattle.holding.specs.Group.{vocoder_in}
-use Rattle.joining.specs.Joining.{agree, either, refused_join, join_of}
+use Rattle.joining.specs.Joining.{Joined, agree, either, refused_join, join_of}
 use Rattle.knowledge.specs.Knowledge.{Box, known_of, Among}
 use Rattle.pouring.proofs.PouringLaws.{count-rows, rows_at, pour-all}
 use Rattle.holding.specs.declared.Holding.{Holding}
-use Rattle.answers.specs.declared.Answer.TheVariants.{Done, Refused}
-use Rattle.joining.specs.declared.Joined.{Joined}
 use Rattle.joining.proofs.Heads.{SameHead, group-head, head-group, head-refl, head-sym, head-trans}
 use Rattle.knowledge.proofs.Cells.{cell}
 use Rattle.knowledge.proofs.JoinLaws.{Sum, sum_one, sum_both, sum-agree, sum-differ, sum_same, Clash, join_is, in_left, in_right}
@@ -71,12 +70,12 @@ second-refused : (v : Voice) (j k : Joined) (a : Holding) → j ≡ done a → k
 unfolding refused_join
 second-refused v j k a e f =
     subst (λ (x : Joined). join_answers v x x.answer k k.answer ≡ refused_join v.shape PacketDiffers) (sym e)
-    (subst (λ (y : Joined). join_answers v (done a) Done y y.answer ≡ refused_join v.shape PacketDiffers) (sym f) refl)
+    (subst (λ (y : Joined). join_answers v (done a) (Ok tt) y y.answer ≡ refused_join v.shape PacketDiffers) (sym f) refl)
 
 both-done : (v : Voice) (j k : Joined) (a b : Holding) → j ≡ done a → k ≡ done b → join_answers v j j.answer k k.answer ≡ join_of v a b
 both-done v j k a b e f =
     subst (λ (x : Joined). join_answers v x x.answer k k.answer ≡ join_of v a b) (sym e)
-    (subst (λ (y : Joined). join_answers v (done a) Done y y.answer ≡ join_of v a b) (sym f) refl)
+    (subst (λ (y : Joined). join_answers v (done a) (Ok tt) y y.answer ≡ join_of v a b) (sym f) refl)
 
 wider : (u : Shape) (xs ys zs : List Holding) → ((h : Holding) → Among h xs → Among h zs) → ((h : Holding) → Among h ys → Among h zs) → Clash u xs ys → Clash u zs zs
 wider u xs ys zs f g c = record { x = c.x; y = c.y; x_in = f c.x c.x_in; y_in = g c.y c.y_in; differ = c.differ }
@@ -242,7 +241,7 @@ done-sum v w g all q = go (ends v w g)
   where
     go : Ends v (boxes w) (outcome v w) → Sum v (boxes w) all
     go (sum a s p e) = let z : a ≡ all = ap (λ (j : Joined). j.holding) (sym e ∙ q) in subst (Sum v (boxes w)) z s
-    go (clash c e) = let z : Refused PacketDiffers ≡ Done = ap (λ (j : Joined). j.answer) (sym e ∙ q) in apart (cc)
+    go (clash c e) = let z : Err PacketDiffers ≡ (Ok tt) = ap (λ (j : Joined). j.answer) (sym e ∙ q) in apart (cc)
 
 pub nothing_lost : NothingLost
 unfolding NothingLost
@@ -267,6 +266,6 @@ unfolding EveryPlaceInTime
 every_place_in_time v m h x =
     record {
       entries = pour-all v h x.some;
-      count = count-rows v h.marks h.room (h.l + 1) h.b ∙ mul_comm h.b (h.l + 1);
-      places = λ n k p q. rows_at v h.marks h.room (h.l + 1) h.b n k (omega arith) q ∙ known-frame v m.short m.erasing h x n (omega (arith, (box-sound v h x).low)) k q;
+      count = count-rows v h.marks h.room (h.numbers.l + 1) h.numbers.b ∙ mul_comm h.numbers.b (h.numbers.l + 1);
+      places = λ n k p q. rows_at v h.marks h.room (h.numbers.l + 1) h.numbers.b n k (omega arith) q ∙ known-frame v m.short m.erasing h x n (omega (arith, (box-sound v h x).low)) k q;
     }

@@ -1,10 +1,12 @@
 -- Sessions and holdings in lent octets. Assumes nothing.
+use Rattle.std.proofs.Common.{Result, Ok, Err}
 use Prim.Native.Nat.{ℕ, ◌+◌, ◌≤◌}
 use mathlib.Core.Bool.{Bool, true, false, cond, ◌&&◌}
 use mathlib.Core.Path.{◌≡◌, refl, sym, ap, ◌∙◌}
 use mathlib.Core.List.{List, ◌++◌}
 use native.Mathlib.Omega.{arith}
 use lib.ListN.{length, take, drop, length-take, take-append-drop}
+use Rattle.answers.specs.declared.Refusal.{Refusal}
 use Rattle.octets.specs.Octets.{over, same_octets, any_set, two_at, four_at, two_octets, four_octets}
 use Rattle.frame.specs.Shape.{Voice, holding_shape}
 use Rattle.octets.proofs.Logic.{apart}
@@ -13,15 +15,12 @@ use Rattle.holding.specs.Group.{Shaped, begun, nothing}
 use Rattle.holding.proofs.GroupLaws.{nothing-held}
 use Rattle.holding.specs.declared.Holding.{Holding}
 use Rattle.pouring.specs.Pouring.{poured}
-use Rattle.session.specs.Session.{vacant, never_opened, is_open, refuse, accept, offered}
+use Rattle.session.specs.Session.{Offered, vacant, never_opened, is_open, refuse, accept, offered}
 use Rattle.session.proofs.Ends.{open-has, Ends, refuses, places, offer-ends}
 use Rattle.session.specs.declared.Session.{Session}
-use Rattle.session.specs.declared.Offered.{Offered}
-use Rattle.session.specs.declared.Taken.{Taken}
-use Rattle.session.specs.declared.Taken.TheVariants as taken
-use Rattle.lending.specs.Laid.{is_long, is_laid, number_octets, frame_octets, holding_octets, holding_at, is_holding, holding_in, holding_laid}
-use Rattle.lending.specs.Laid.{form_octets, form_at, last_octets, session_head, session_laid, session_at, is_session, session_in}
-use Rattle.lending.specs.Calls.{lay_taken, offer_answer, offer_octets}
+use Rattle.lending.specs.Laid.{is_long, is_laid, number_octets, frame_octets, holding_octets, numbers_at, holding_at, is_holding, holding_in, holding_laid}
+use Rattle.lending.specs.Laid.{form_octets, form_at, last_octets, last_at, session_head, session_laid, session_at, is_session, session_in}
+use Rattle.lending.specs.Calls.{lay_if, offer_answer, offer_octets}
 use Rattle.lending.proofs.LaidLaws.{too_short, laid-long, at-shaped}
 use Rattle.lending.proofs.PartsLaws.{open-laid}
 use Rattle.claims.specs.Lent.{LentIsShaped, ZeroIsNeverOpened, ShortIsNone, NoSessionTakesNothing, NoHoldingHoldsNothing, SessionLaysBack}
@@ -33,7 +32,7 @@ use Rattle.claims.proofs.Sessions.{repeat_changes_nothing}
 
 pub zero_is_never_opened : ZeroIsNeverOpened
 unfolding same_octets two_at four_at two_octets four_octets begun nothing vacant never_opened is_long is_laid number_octets frame_octets holding_octets
-    holding_at form_octets form_at last_octets session_head session_laid session_at is_session session_in
+    numbers_at holding_at form_octets form_at last_octets last_at session_head session_laid session_at is_session session_in
 zero_is_never_opened = record { read = refl; laid = refl }
 
 pub short_is_none : ShortIsNone
@@ -49,7 +48,7 @@ unfolding NoHoldingHoldsNothing holding_in poured
 no_holding_holds_nothing v o e = rw (e, nothing-held v holding_shape) (refl, refl)
 
 -- ---- octets that are as they would be laid out
-pub are-laid : (o w : List ℕ) → is_laid o w ≡ true → w ≡ take 2304 o
+are-laid : (o w : List ℕ) → is_laid o w ≡ true → w ≡ take 2304 o
 unfolding is_laid
 are-laid o w e = go (is_long o) e
   where
@@ -112,21 +111,21 @@ over-same o h =
     ap (λ (i : ℕ). take 2304 o ++ drop i o) l ∙ take-append-drop 2304 o
 
 -- what is accepted was offered to an open session
-accepted-open : (v : Voice) (s : Session) (source q t : ℕ) (p : List ℕ) (lost : ℕ) → (offered v s source q t p).answer ≡ taken.Accepted lost → s.«open» ≡ true
+accepted-open : (v : Voice) (s : Session) (source q t : ℕ) (p : List ℕ) (lost : ℕ) → (offered v s source q t p).answer ≡ Ok lost → s.«open» ≡ true
 unfolding refuse
 accepted-open v s source q t p lost e = go (offered v s source q t p) (offer-ends v s source q t p) e
   where
-    go : (o : Offered) → Ends v s source q t p o → o.answer ≡ taken.Accepted lost → s.«open» ≡ true
-    go o (refuses r n x) y = let z : taken.Refused r ≡ taken.Accepted lost = ap (λ (w : Offered). w.answer) (sym x) ∙ y in apart (cc)
+    go : (o : Offered) → Ends v s source q t p o → o.answer ≡ Ok lost → s.«open» ≡ true
+    go o (refuses r n x) y = let z : Err r ≡ Ok lost = ap (λ (w : Offered). w.answer) (sym x) ∙ y in apart (cc)
     go o (places x _ l n d fs _ _) y = (open-has v s x).opened
 
 kept-octets : (v : Voice) (o : List ℕ) (source q t : ℕ) (p : List ℕ) → (offered v (session_in o) source q t p).session ≡ session_in o → offer_octets v o source q t p ≡ o
-unfolding SessionLaysBack offer_octets offer_answer lay_taken is_session
+unfolding SessionLaysBack offer_octets offer_answer lay_if is_session
 kept-octets v o source q t p e = go (offered v (session_in o) source q t p).answer refl
   where
-    go : (y : Taken) → (offered v (session_in o) source q t p).answer ≡ y → lay_taken y o (session_laid (offered v (session_in o) source q t p).session) ≡ o
-    go (taken.Refused r) f = refl
-    go (taken.Accepted lost) f =
+    go : (y : Result ℕ Refusal) → (offered v (session_in o) source q t p).answer ≡ y → lay_if y o (session_laid (offered v (session_in o) source q t p).session) ≡ o
+    go (Err r) f = refl
+    go (Ok lost) f =
         let a : (session_in o).«open» ≡ true = accepted-open v (session_in o) source q t p lost f in
         ap (λ (s : Session). over o 0 (session_laid s)) e ∙ ap (over o 0) (session_lays_back o a) ∙ over-same o (laid-long o (session_laid (session_at o)) (open-laid o a))
 

@@ -1,38 +1,34 @@
 -- What was laid out in lent octets reads back the same: each field is a window of the octets, and the window is the piece that was laid out. Assumes nothing.
+use Rattle.std.proofs.Common.{Option, Some, None, is_some}
 use Prim.Native.Nat.{ℕ, ◌+◌, ◌%◌, ◌≤◌, ◌<◌}
 use mathlib.Core.Bool.{Bool, true, false, cond}
-use mathlib.Core.Path.{◌≡◌, refl, sym, ap, ap₂, subst, ◌∙◌}
+use mathlib.Core.Path.{◌≡◌, refl, sym, ap, ap₂, ◌∙◌}
 use mathlib.Core.List.{List, [], ◌∷◌, ◌++◌, map}
 use native.Mathlib.Nat.{add-zero, zero-add}
 use native.Mathlib.Omega.{arith}
-use lib.ListN.{length, take, drop, get_or, replicate, length-append, take-append-drop}
+use lib.ListN.{length, take, drop, get_or, replicate, length-append}
 use lib.Seq.{take_all}
 use Rattle.octets.specs.Octets.{over, shifted, same_octets, two_at, four_at, two_octets}
 use Rattle.octets.proofs.Logic.{apart}
 use Rattle.octets.proofs.OctetsLaws.{same_refl, in-first, in-second, octet-window, two-window, four-window, two_back, four-back}
 use Rattle.octets.proofs.OctetsLaws.{length_two, length-four}
-use Rattle.answers.specs.declared.Refusal.TheVariants.{NotApplicable}
-use Rattle.answers.specs.declared.Answer.TheVariants as answer
 use Rattle.joining.proofs.Heads.{same-fields}
 use Rattle.holding.specs.declared.Holding.{Holding}
-use Rattle.frame.specs.Shape.{Voice, holding_shape}
+use Rattle.frame.specs.Shape.{holding_shape}
 use Rattle.holding.specs.Group.{Shaped}
 use Rattle.form.specs.declared.Form.{Form}
 use Rattle.form.specs.declared.Form.TheVariants.{HeaderFree, Interleaved}
-use Rattle.session.specs.Session.{offered, vacant, never_opened, fresh, form_right, opened_for, with_group, ended}
 use Rattle.session.specs.declared.Session.{Session}
-use Rattle.session.specs.declared.Started.{Started}
-use Rattle.session.proofs.Ends.{only-group}
-use Rattle.lending.specs.Laid.{flag_octet, is_set, is_laid, number_octets, frame_octets, holding_octets, holding_at, holding_laid}
-use Rattle.lending.specs.Laid.{form_octets, form_at, last_octets, session_head, session_laid, session_at, is_session, session_in}
+use Rattle.numbers.specs.declared.GroupNumbers.{GroupNumbers}
+use Rattle.lending.specs.Laid.{flag_octet, is_set, is_laid, number_octets, frame_octets, holding_octets, numbers_at, holding_at, holding_laid}
+use Rattle.lending.specs.Laid.{form_octets, form_at, last_octets, last_at, session_head, session_laid, session_at}
 use Rattle.lending.proofs.LaidLaws.{long_enough, form-free, form-interleaved, holding-there}
-use Rattle.lending.proofs.PartsLaws.{session-there, session-read}
+use Rattle.lending.proofs.PartsLaws.{session-there}
 use Rattle.lending.proofs.Pieces.{A, B, C, D, F, M, O, G, S, P, Q, K, E, Z, T, length-ab, length-abc, length-abcd, length-numbers, length-f}
 use Rattle.lending.proofs.Pieces.{length-m, length-fn, length_types, length-holding, length-holding-laid, length-form, length-og, length-ogs}
 use Rattle.lending.proofs.Pieces.{length-ogsp, length-kez, length-ogspq, length_last, length-head, length-grouped, length-session-laid}
 use Rattle.claims.specs.Packets.{AreOctets}
 use Rattle.claims.specs.Lent.{HoldingReadsBack, NoneRemembered, NothingPouredNothingRemembered, SessionReadsBack}
-use Rattle.claims.proofs.Lent.{are-laid}
 
 -- ---- flags and types
 flags-back : (fs : List Bool) → map is_set (map flag_octet fs) ≡ fs
@@ -67,12 +63,12 @@ module _ (h : Holding) (x : Shaped holding_shape h) (z : AreOctets h.marks) wher
   sequence-piece : take 2 (drop 4 (holding_octets h)) ≡ B h
   sequence-piece =
       low 4 2 (omega arith) ∙ in-first (A h ++ B h ++ C h) (D h) 4 2 (omega (arith, length-abc h)) ∙ in-first (A h ++ B h) (C h) 4 2 (omega (arith, length-ab h))
-      ∙ in-second (A h) (B h) 4 0 2 (length-four h.source) ∙ take_all 2 (B h) (omega (arith, length_two h.sequence))
+      ∙ in-second (A h) (B h) 4 0 2 (length-four h.source) ∙ take_all 2 (B h) (omega (arith, length_two h.numbers.sequence))
 
   timestamp-piece : take 4 (drop 6 (holding_octets h)) ≡ C h
   timestamp-piece =
       low 6 4 (omega arith) ∙ in-first (A h ++ B h ++ C h) (D h) 6 4 (omega (arith, length-abc h)) ∙ in-second (A h ++ B h) (C h) 6 0 4 (length-ab h)
-      ∙ take_all 4 (C h) (omega (arith, length-four h.timestamp))
+      ∙ take_all 4 (C h) (omega (arith, length-four h.numbers.timestamp))
 
   sizes-piece : take 2 (drop 10 (holding_octets h)) ≡ D h
   sizes-piece = low 10 2 (omega arith) ∙ in-second (A h ++ B h ++ C h) (D h) 10 0 2 (length-abc h)
@@ -117,29 +113,35 @@ module _ (h : Holding) (x : Shaped holding_shape h) (z : AreOctets h.marks) wher
         ap (λ (y : ℕ). get_or o y 0) e ∙ octet-window o (at + 10) 2 i p ∙ ap (λ (w : List ℕ). get_or w i 0) (there 10 2 (omega arith) ∙ sizes-piece)
 
     holding-back : holding_at o at ≡ h
-    unfolding holding_at
+    unfolding holding_at numbers_at
     holding-back =
+        let later : at + 4 + 2 ≡ at + 6 = omega arith in
         same-fields (four-window o at ∙ ap (λ (w : List ℕ). four_at w 0) (front 4 (omega arith) ∙ source-piece) ∙ four-back h.source)
-        (two-window o (at + 4) ∙ ap (λ (w : List ℕ). two_at w 0) (there 4 2 (omega arith) ∙ sequence-piece) ∙ two_back h.sequence)
-        (four-window o (at + 6) ∙ ap (λ (w : List ℕ). four_at w 0) (there 6 4 (omega arith) ∙ timestamp-piece) ∙ four-back h.timestamp)
-        (size-at 0 (at + 10) (sym (add-zero (at + 10))) (omega arith))
-        (size-at 1 (at + 11) (omega arith) (omega arith))
+        (two-window o (at + 4) ∙ ap (λ (w : List ℕ). two_at w 0) (there 4 2 (omega arith) ∙ sequence-piece) ∙ two_back h.numbers.sequence)
+        (ap (four_at o) later ∙ four-window o (at + 6) ∙ ap (λ (w : List ℕ). four_at w 0) (there 6 4 (omega arith) ∙ timestamp-piece) ∙ four-back h.numbers.timestamp)
+        (size-at 0 (at + 4 + 6) (omega arith) (omega arith))
+        (size-at 1 (at + 4 + 7) (omega arith) (omega arith))
         (ap (map is_set) (there 16 8 (omega arith) ∙ flags-piece) ∙ flags-back h.held)
         (ap (map (shifted 14)) (there 32 80 (omega arith) ∙ types-piece) ∙ types-back h.marks z)
         (there 112 1760 (omega arith) ∙ room-piece)
+
+-- the numbers that lie where those of the last poured group do
+abbrev numbers_of_last : List ℕ → GroupNumbers
+numbers_of_last o = record { sequence = two_at o 9; timestamp = four_at o 16; l = get_or o 11 0; b = get_or o 12 0 }
+
+same-numbers : {q q' t t' l l' b b' : ℕ} → q ≡ q' → t ≡ t' → l ≡ l' → b ≡ b'
+    → ◌≡◌ {A = GroupNumbers} (record { sequence = q; timestamp = t; l = l; b = b }) (record { sequence = q'; timestamp = t'; l = l'; b = b' })
+same-numbers a b c d = cc
+
+same-session : {o o' : Bool} {s s' : ℕ} {f f' : Form} {g g' : Holding} {l l' : Option GroupNumbers} → o ≡ o' → s ≡ s' → f ≡ f' → g ≡ g' → l ≡ l'
+    → ◌≡◌ {A = Session} (record { «open» = o; source = s; form = f; group = g; last = l }) (record { «open» = o'; source = s'; form = f'; group = g'; last = l' })
+same-session a b c d e = cc
 
 flag-back : (b : Bool) → is_set (flag_octet b) ≡ b
 flag-back true = refl
 flag-back false = refl
 
 -- ---- a session: its pieces, by their windows
--- octets that say these numbers of the last poured group
-record Last (o : List ℕ) (q t m c : ℕ) : Type 0 where
-  sequence : two_at o 9 ≡ q
-  timestamp : four_at o 16 ≡ t
-  l : get_or o 11 0 ≡ m
-  b : get_or o 12 0 ≡ c
-
 module _ (s : Session) where
   -- a window of the first octets is one of a shorter beginning
   to-q : (k n : ℕ) → k + n ≤ 20 → take n (drop k (session_head s)) ≡ take n (drop k (O s ++ G s ++ S s ++ P s ++ Q s))
@@ -168,15 +170,15 @@ module _ (s : Session) where
   poured-piece = to-p 8 1 (omega arith) ∙ in-second (O s ++ G s ++ S s) (P s) 8 0 1 (length-ogs s)
 
   last-piece : take 11 (drop 9 (session_head s)) ≡ Q s
-  last-piece = to-q 9 11 (omega arith) ∙ in-second (O s ++ G s ++ S s ++ P s) (Q s) 9 0 11 (length-ogsp s) ∙ take_all 11 (Q s) (omega (arith, length_last s))
+  last-piece = to-q 9 11 (omega arith) ∙ in-second (O s ++ G s ++ S s ++ P s) (Q s) 9 0 11 (length-ogsp s) ∙ take_all 11 (Q s) (omega (arith, length_last s.last))
 
   -- the base timestamp of the last poured group, if there is one
-  time-piece : s.poured ≡ true → take 4 (drop 16 (session_head s)) ≡ T s
+  time-piece : (g : GroupNumbers) → s.last ≡ Some g → take 4 (drop 16 (session_head s)) ≡ T g
   unfolding last_octets
-  time-piece e =
-      let q : Q s ≡ K s ++ E s ++ Z s ++ T s = simp e in
+  time-piece g e =
+      let q : Q s ≡ K g ++ E g ++ Z g ++ T g = ap last_octets e in
       to-q 16 4 (omega arith) ∙ in-second (O s ++ G s ++ S s ++ P s) (Q s) 9 7 4 (length-ogsp s) ∙ ap (λ (w : List ℕ). take 4 (drop 7 w)) q
-      ∙ in-second (K s ++ E s ++ Z s) (T s) 7 0 4 (length-kez s) ∙ take_all 4 (T s) (omega (arith, length-four s.last_timestamp))
+      ∙ in-second (K g ++ E g ++ Z g) (T g) 7 0 4 (length-kez g) ∙ take_all 4 (T g) (omega (arith, length-four g.timestamp))
 
   -- octets that begin as the session is laid out
   module _ (rest : List ℕ) where
@@ -209,7 +211,7 @@ module _ (s : Session) where
     is_open : get_or all 0 0 ≡ flag_octet s.«open»
     is_open = octet 0 1 0 (O s) (omega arith) (omega arith) open-piece
 
-    is-poured : get_or all 8 0 ≡ flag_octet s.poured
+    is-poured : get_or all 8 0 ≡ flag_octet (is_some s.last)
     is-poured = octet 8 1 0 (P s) (omega arith) (omega arith) poured-piece
 
     form-octet : (i : ℕ) → i < 3 → get_or all (1 + i) 0 ≡ get_or (G s) i 0
@@ -226,61 +228,39 @@ module _ (s : Session) where
     last-octet : (i : ℕ) → i < 11 → get_or all (9 + i) 0 ≡ get_or (Q s) i 0
     last-octet i p = octet 9 11 i (Q s) (omega arith) p last-piece
 
-    -- the numbers of the last poured group; where none was, they read as zero
-    last-zero : s.poured ≡ false → Last all 0 0 0 0
-    unfolding last_octets two_at four_at
-    last-zero e =
-        let z : (i : ℕ) → i < 11 → get_or all (9 + i) 0 ≡ get_or (replicate 11 0) i 0 = λ i p. last-octet i p ∙ simp e in
-        let a = z 0 (omega arith) in
-        let b = z 1 (omega arith) in
-        let c = z 7 (omega arith) in
-        let d = z 8 (omega arith) in
-        let f = z 9 (omega arith) in
-        let g = z 10 (omega arith) in
-        record { sequence = omega arith; timestamp = omega arith; l = z 2 (omega arith); b = z 3 (omega arith) }
-
-    last-back : s.poured ≡ true → Last all s.last_sequence s.last_timestamp s.last_l s.last_b
+    -- the numbers of the last poured group
+    last-back : (g : GroupNumbers) → s.last ≡ Some g → numbers_of_last all ≡ g
     unfolding last_octets two_at two_octets
-    last-back e =
-        let w = K s ++ E s ++ Z s ++ T s in
-        let z : (i : ℕ) → i < 11 → get_or all (9 + i) 0 ≡ get_or w i 0 = λ i p. last-octet i p ∙ simp e in
+    last-back g e =
+        let w = K g ++ E g ++ Z g ++ T g in
+        let z : (i : ℕ) → i < 11 → get_or all (9 + i) 0 ≡ get_or w i 0 = λ i p. last-octet i p ∙ ap (λ (q : Option GroupNumbers). get_or (last_octets q) i 0) e in
         let a = z 0 (omega arith) in
         let b = z 1 (omega arith) in
-        record {
-          sequence = omega arith;
-          timestamp = four-window all 16 ∙ ap (λ (w : List ℕ). four_at w 0) (head-there 16 4 (omega arith) ∙ time-piece e) ∙ four-back s.last_timestamp;
-          l = z 2 (omega arith);
-          b = z 3 (omega arith);
-        }
+        same-numbers (omega arith)
+        (four-window all 16 ∙ ap (λ (w : List ℕ). four_at w 0) (head-there 16 4 (omega arith) ∙ time-piece g e) ∙ four-back g.timestamp)
+        (z 2 (omega arith))
+        (z 3 (omega arith))
 
-    last-same : NoneRemembered s → Last all s.last_sequence s.last_timestamp s.last_l s.last_b
-    unfolding NoneRemembered
-    last-same none = go s.poured refl
+    -- and whether there is one
+    last-same : last_at all ≡ s.last
+    unfolding last_at
+    last-same = go s.last refl
       where
-        go : (b : Bool) → s.poured ≡ b → Last all s.last_sequence s.last_timestamp s.last_l s.last_b
-        go true e = last-back e
-        go false e =
-            let n = none e in
-            let z = last-zero e in
-            record {
-              sequence = z.sequence ∙ sym n.0;
-              timestamp = z.timestamp ∙ sym n.1.0;
-              l = z.l ∙ sym n.1.1.0;
-              b = z.b ∙ sym n.1.1.1;
-            }
+        is-set : is_set (get_or all 8 0) ≡ is_some s.last
+        is-set = ap is_set is-poured ∙ flag-back (is_some s.last)
 
-    session-back : NoneRemembered s → Shaped holding_shape s.group → AreOctets s.group.marks → s ≡ session_at all
-    session-back none x z =
-        let l = last-same none in
-        session-read all s (sym (ap is_set is_open ∙ flag-back s.«open»))
+        go : (l : Option GroupNumbers) → s.last ≡ l → cond (is_set (get_or all 8 0)) (Some (numbers_of_last all)) None ≡ l
+        go None e = ap (λ (b : Bool). cond b (Some (numbers_of_last all)) None) (is-set ∙ ap is_some e)
+        go (Some g) e = ap (λ (b : Bool). cond b (Some (numbers_of_last all)) None) (is-set ∙ ap is_some e) ∙ ap Some (last-back g e)
+
+    session-back : Shaped holding_shape s.group → AreOctets s.group.marks → s ≡ session_at all
+    unfolding session_at
+    session-back x z =
+        same-session (sym (ap is_set is_open ∙ flag-back s.«open»))
         (sym (four-window all 4 ∙ ap (λ (w : List ℕ). four_at w 0) (head-there 4 4 (omega arith) ∙ from-piece) ∙ four-back s.source))
         (sym form-back)
         (sym (holding-back s.group x z all 32 (group-there x)))
-        (sym (ap is_set is-poured ∙ flag-back s.poured))
-        (sym l.sequence)
-        (sym l.timestamp)
-        (sym l.l)
-        (sym l.b)
+        (sym last-same)
 
 -- ---- both, whatever the buffer held before
 there-laid : (w rest : List ℕ) → length w ≡ 2304 → is_laid (w ++ rest) w ≡ true
@@ -310,59 +290,24 @@ holding_reads_back h x z d =
 
 pub session_reads_back : SessionReadsBack
 unfolding SessionReadsBack over
-session_reads_back s none x z d =
+session_reads_back s x z d =
     let w = session_laid s in
     let rest = drop (0 + length w) d in
-    sym (session-there (w ++ rest) s (there-laid w rest (length-session-laid s x)) (session-back s rest none x z))
+    sym (session-there (w ++ rest) s (there-laid w rest (length-session-laid s x)) (session-back s rest x z))
 
--- ---- a session in which no group was poured has the numbers of none
-pub zero-none : (s : Session) → s.last_sequence ≡ 0 → s.last_timestamp ≡ 0 → s.last_l ≡ 0 → s.last_b ≡ 0 → NoneRemembered s
+-- ---- what no group was poured in remembers none
+none-remembered : (s : Session) → NoneRemembered s
 unfolding NoneRemembered
-zero-none s a t b c = λ e. (a, (t, (b, c)))
-
-same_none : (s : Session) (h : Holding) → NoneRemembered s → NoneRemembered (with_group s h)
-unfolding NoneRemembered with_group
-same_none s h n = n
-
-offered-none : (v : Voice) (s : Session) (source q t : ℕ) (p : List ℕ) → NoneRemembered s → NoneRemembered (offered v s source q t p).session
-offered-none v s source q t p n = subst NoneRemembered (sym (only-group v s source q t p)) (same_none s (offered v s source q t p).session.group n)
-
-opened-none : (source : ℕ) (form : Form) → NoneRemembered (opened_for holding_shape (never_opened holding_shape) source form).session
-unfolding opened_for never_opened fresh vacant
-opened-none source form = go (form_right form)
+none-remembered s = go s.last
   where
-    go : (b : Bool) → NoneRemembered
-        (cond {A = Started} b (record { answer = answer.Done; session = fresh holding_shape source form })
-        (record { answer = answer.Refused NotApplicable; session = never_opened holding_shape })).session
-    go true = zero-none _ refl refl refl refl
-    go false = zero-none _ refl refl refl refl
-
-laid_none : (o : List ℕ) → session_laid (session_at o) ≡ take 2304 o → NoneRemembered (session_at o)
-unfolding NoneRemembered session_at
-laid_none o e q =
-    let rest = drop 2304 o in
-    let y : o ≡ session_laid (session_at o) ++ rest = sym (ap (λ (w : List ℕ). w ++ rest) e ∙ take-append-drop 2304 o) in
-    let z = last-zero (session_at o) rest q in (
-      ap (λ (w : List ℕ). two_at w 9) y ∙ z.sequence,
-      (ap (λ (w : List ℕ). four_at w 16) y ∙ z.timestamp, (ap (λ (w : List ℕ). get_or w 11 0) y ∙ z.l, ap (λ (w : List ℕ). get_or w 12 0) y ∙ z.b)),
-    )
-
-lent_none : (o : List ℕ) → NoneRemembered (session_in o)
-unfolding session_in is_session never_opened vacant
-lent_none o = go (is_laid o (session_laid (session_at o))) refl
-  where
-    go : (b : Bool) → is_laid o (session_laid (session_at o)) ≡ b → NoneRemembered (cond b (session_at o) (never_opened holding_shape))
-    go false e = zero-none _ refl refl refl refl
-    go true e = laid_none o (are-laid o (session_laid (session_at o)) e)
-
-pours-none : (s : Session) → NoneRemembered (ended holding_shape s)
-unfolding NoneRemembered ended
-pours-none s e = apart (cc)
+    go : (l : Option GroupNumbers) → is_some l ≡ false → l ≡ None
+    go None e = refl
+    go (Some g) e = apart (cc)
 
 pub nothing_poured_nothing_remembered : NothingPouredNothingRemembered
 nothing_poured_nothing_remembered = record {
-  opened = opened-none;
-  lent = lent_none;
-  offers = offered-none;
-  pours = pours-none;
+  opened = λ source form. none-remembered _;
+  lent = λ o. none-remembered _;
+  offers = λ v s source sequence timestamp p. none-remembered _;
+  pours = λ s. none-remembered _;
 }

@@ -1,4 +1,5 @@
 -- Holdings in lent octets are joined as holdings are. Assumes nothing.
+use Rattle.std.proofs.Common.{Result, Ok, Err}
 use Prim.Native.Nat.{ℕ}
 use mathlib.Core.Bool.{Bool, true, false, cond, ◌&&◌}
 use mathlib.Core.Path.{◌≡◌, refl, sym, ap, ap₂, subst, ◌∙◌}
@@ -11,13 +12,10 @@ use Rattle.octets.proofs.Logic.{apart, both_true}
 use Rattle.frame.specs.FrameTable.{FrameTable, rows_of}
 use Rattle.frame.specs.Shape.{Shape, Voice, voice_with}
 use Rattle.answers.specs.declared.Refusal.{Refusal}
-use Rattle.answers.specs.declared.Answer.{Answer}
-use Rattle.answers.specs.declared.Answer.TheVariants.{Done, Refused}
 use Rattle.holding.specs.Group.{Shaped, holds, vocoder_in}
 use Rattle.holding.specs.declared.Holding.{Holding}
 use Rattle.holding.proofs.GroupLaws.{holds-sound}
-use Rattle.joining.specs.Joining.{same_group, agree, either, refused_join, join_of}
-use Rattle.joining.specs.declared.Joined.{Joined}
+use Rattle.joining.specs.Joining.{Joined, same_group, agree, either, refused_join, join_of}
 use Rattle.joining.proofs.Heads.{SameHead, group-head, head-group, head-refl, head-sym, head-trans}
 use Rattle.knowledge.specs.Knowledge.{Box, Among}
 use Rattle.knowledge.proofs.JoinLaws.{sum_one, sum_both, join_is}
@@ -36,13 +34,13 @@ use Rattle.claims.proofs.Lent.{lent_is_shaped, holding_lays_back, equal_is_equal
 use Rattle.claims.proofs.LentBack.{holding_reads_back}
 
 -- ---- a joining that was done
-joined-when : (u : Shape) (t : Bool) (j : Joined) (r : Refusal) → (cond t j (refused_join u r)).answer ≡ Done → (t ≡ true) × (j.answer ≡ Done)
+joined-when : (u : Shape) (t : Bool) (j : Joined) (r : Refusal) → (cond t j (refused_join u r)).answer ≡ (Ok tt) → (t ≡ true) × (j.answer ≡ (Ok tt))
 unfolding refused_join
 joined-when u true j r e = (refl, e)
 joined-when u false j r e = apart (cc)
 
 -- gives a holding that holds a packet
-joined-box : (v : Voice) (a b : Holding) → Shaped v.shape a → Shaped v.shape b → (join_of v a b).answer ≡ Done → Box v (join_of v a b).holding
+joined-box : (v : Voice) (a b : Holding) → Shaped v.shape a → Shaped v.shape b → (join_of v a b).answer ≡ (Ok tt) → Box v (join_of v a b).holding
 unfolding join_of
 joined-box v a b x y e =
     let i = joined-when v.shape (holds v a && holds v b) _ _ e in
@@ -101,35 +99,35 @@ join-turn v a b x y = go (holds v a) (holds v b) (same_group a b) refl refl refl
     go false false g p q r = rw (p, q)
 
 -- ---- the room comes last
-room-last : (x : Answer) (out : List ℕ) → then_room x out ≡ Done → x ≡ Done
+room-last : (x : Result Unit Refusal) (out : List ℕ) → then_room x out ≡ (Ok tt) → x ≡ (Ok tt)
 unfolding then_room
-room-last Done out e = refl
-room-last (Refused r) out e = apart (cc)
+room-last (Ok tt) out e = refl
+room-last (Err r) out e = apart (cc)
 
-room-there : (x : Answer) (out : List ℕ) → is_long out ≡ true → then_room x out ≡ x
+room-there : (x : Result Unit Refusal) (out : List ℕ) → is_long out ≡ true → then_room x out ≡ x
 unfolding then_room room_in
-room-there Done out e = rw e
-room-there (Refused r) out e = refl
+room-there (Ok tt) out e = rw e
+room-there (Err r) out e = refl
 
 -- ---- in lent octets
 module _ (table : FrameTable) (w : T (narrow table)) (m : HasRoom (voice_with table)) where
   abbrev v : Voice
   v = voice_with table
 
-  reads_back : (a b out : List ℕ) → join_answer v a b out ≡ Done → holding_in (join_octets v a b out) ≡ (join_of v (holding_in a) (holding_in b)).holding
+  reads_back : (a b out : List ℕ) → join_answer v a b out ≡ (Ok tt) → holding_in (join_octets v a b out) ≡ (join_of v (holding_in a) (holding_in b)).holding
   unfolding join_answer join_octets lay_if HoldingReadsBack
   reads_back a b out e =
       let h = (join_of v (holding_in a) (holding_in b)).holding in
       let x = joined-box v (holding_in a) (holding_in b) (lent_is_shaped.holdings a) (lent_is_shaped.holdings b) (room-last _ out e) in
-      ap (λ (y : Answer). holding_in (lay_if y out (holding_laid h))) e ∙ holding_reads_back h x.shaped (box-marks v w m.erasing h x) out
+      ap (λ (y : Result Unit Refusal). holding_in (lay_if y out (holding_laid h))) e ∙ holding_reads_back h x.shaped (box-marks v w m.erasing h x) out
 
-  itself : (o out : List ℕ) → holds v (holding_in o) ≡ true → is_long out ≡ true → (join_answer v o o out ≡ Done) × (join_octets v o o out ≡ over out 0 (take 2304 o))
+  itself : (o out : List ℕ) → holds v (holding_in o) ≡ true → is_long out ≡ true → (join_answer v o o out ≡ (Ok tt)) × (join_octets v o o out ≡ over out 0 (take 2304 o))
   unfolding join_answer join_octets lay_if WithItself HoldingLaysBack
   itself o out h l =
       let j = with_itself v (holding_in o) (record { shaped = lent_is_shaped.holdings o; some = h }) in
-      let a : join_answer v o o out ≡ Done = ap (λ (y : Joined). then_room y.answer out) j ∙ room-there Done out l in (
+      let a : join_answer v o o out ≡ (Ok tt) = ap (λ (y : Joined). then_room y.answer out) j ∙ room-there (Ok tt) out l in (
         a,
-        ap (λ (y : Answer). lay_if y out (holding_laid (join_of v (holding_in o) (holding_in o)).holding)) a
+        ap (λ (y : Result Unit Refusal). lay_if y out (holding_laid (join_of v (holding_in o) (holding_in o)).holding)) a
             ∙ ap (λ (y : Joined). over out 0 (holding_laid y.holding)) j ∙ ap (over out 0) (holding_lays_back o (holds-sound v (holding_in o) h).1),
       )
 
@@ -145,13 +143,13 @@ module _ (table : FrameTable) (w : T (narrow table)) (m : HasRoom (voice_with ta
       EndsAs (join_into v out j j.answer k k.answer) (join_answers v o o.answer p p.answer)
   unfolding join_answer
   joins-as out l j k o p x y =
-      subst (λ (z : Answer). EndsAs (join_into v out j j.answer k k.answer) (join_answers v o z p p.answer)) x.answered
-      (subst (λ (z : Answer). EndsAs (join_into v out j j.answer k k.answer) (join_answers v o j.answer p z)) y.answered (go j.answer k.answer refl refl))
+      subst (λ (z : Result Unit Refusal). EndsAs (join_into v out j j.answer k k.answer) (join_answers v o z p p.answer)) x.answered
+      (subst (λ (z : Result Unit Refusal). EndsAs (join_into v out j j.answer k k.answer) (join_answers v o j.answer p z)) y.answered (go j.answer k.answer refl refl))
     where
-      go : (s t : Answer) → j.answer ≡ s → k.answer ≡ t → EndsAs (join_into v out j s k t) (join_answers v o s p t)
-      go (Refused r) t e f = x
-      go Done (Refused r) e f = y
-      go Done Done e f = record {
+      go : (s t : Result Unit Refusal) → j.answer ≡ s → k.answer ≡ t → EndsAs (join_into v out j s k t) (join_answers v o s p t)
+      go (Err r) t e f = x
+      go (Ok a) (Err r) e f = y
+      go (Ok a) (Ok b) e f = record {
         answered = room-there _ out l ∙ ap₂ (λ (a b : Holding). (join_of v a b).answer) (x.read e) (y.read f);
         read = λ d. reads_back j.octets k.octets out d ∙ ap₂ (λ (a b : Holding). (join_of v a b).holding) (x.read e) (y.read f);
       }
@@ -172,7 +170,7 @@ module _ (table : FrameTable) (w : T (narrow table)) (m : HasRoom (voice_with ta
         answered = a;
         same = λ d.
             let h = (outcome v (way_of s)).holding in
-            let e : outcome v (way_of s) ≡ done h = ap (λ (z : Answer). record { answer = z; holding = h }) (sym x.answered ∙ d) in
+            let e : outcome v (way_of s) ≡ done h = ap (λ (z : Result Unit Refusal). record { answer = z; holding = h }) (sym x.answered ∙ d) in
             let z = (holds-sound v h (done-sum v (way_of s) g h e).whole.some).1 in
             equal_is_equal_octets.holdings (lent_outcome v s).octets (lent_outcome v t).octets (ap (λ (i : Holding). any_set i.held) (x.read d) ∙ z)
             (x.read d ∙ ap (λ (j : Joined). j.holding) o ∙ sym (y.read (sym a ∙ d)));

@@ -40,8 +40,8 @@ mark-known v z h x n k i j = go (held_at h n) refl
     go : (t : Bool) → held_at h n ≡ t → known v.table (mark_at (bundle_at v.shape h n) k) ≡ true
     go true e =
         let p = bundle_at v.shape h n in
-        let q = all-at (frame_right v h.b p) 10 k (right-held v h x n i e).1 j in
-        (both_true (known v.table (mark_at p k)) (may_stand h.b k (mark_at p k)) (both_true (known v.table (mark_at p k) && may_stand h.b k (mark_at p k)) _ q).0).0
+        let q = all-at (frame_right v h.numbers.b p) 10 k (right-held v h x n i e).1 j in
+        (both_true (known v.table (mark_at p k)) (may_stand h.numbers.b k (mark_at p k)) (both_true (known v.table (mark_at p k) && may_stand h.numbers.b k (mark_at p k)) _ q).0).0
     go false e = ap (λ (p : Bundle). known v.table (get_or p.marks k 0)) (box-blank v h x n i e) ∙ ap (known v.table) (get_or-replicate 10 k erasure 0 j) ∙ (erasure-listed v.table z).0
 
 pub box-marks : (v : Voice) → T (narrow v.table) → T (erases v.table) → (h : Holding) → Box v h → AreOctets h.marks

@@ -119,9 +119,9 @@ module _ (v : Voice) (m : HasRoom v) (form : Form) (g : Sent v form) (s : Sessio
           ap is_erasure (places.original n k i j (o.others n i (eqb-false n x e)))
           ∙ z (place_of g.group.l n k) (omega (arith, g.group.many, place_in g.group.l n g.group.b k i j))
 
-  in_time_lem : (n k : ℕ) → n < s.group.l + 1 → k < s.group.b → is_erasure (frame_of v (bundle_at v.shape s.group n) k) ≡ eqb n x
+  in_time_lem : (n k : ℕ) → n < s.group.numbers.l + 1 → k < s.group.numbers.b → is_erasure (frame_of v (bundle_at v.shape s.group n) k) ≡ eqb n x
   in_time_lem n k i j =
-      ap is_erasure (sym (rows_at v s.group.marks s.group.room (s.group.l + 1) s.group.b n k i j))
+      ap is_erasure (sym (rows_at v s.group.marks s.group.room (s.group.numbers.l + 1) s.group.numbers.b n k i j))
       ∙ ap (λ (l : ℕ). is_erasure (frame_at (in_time v s.group) (place_of l n k))) h.part.of_group.same_length
       ∙ at_place n k (omega (arith, h.part.of_group.same_length)) (omega (arith, h.part.of_group.same_bundle))
 
@@ -134,7 +134,7 @@ module _ (v : Voice) (m : HasRoom v) (form : Form) (g : Sent v form) (s : Sessio
   spread : Spread (in_time v s.group) g.group.b
   spread =
       record {
-        exactly_b = row-erasures v s.group.marks s.group.room x (s.group.l + 1) s.group.b
+        exactly_b = row-erasures v s.group.marks s.group.room x (s.group.numbers.l + 1) s.group.numbers.b
             (omega (arith, h.part.of_group.same_length, o.in_group)) in_time_lem
             ∙ h.part.of_group.same_bundle;
         no_neighbours = λ t i a b. rests-differ t (g.group.l + 1) x (omega (arith, o.two_or_more))

@@ -1,4 +1,5 @@
 -- Demand 3, offering. Assumes nothing.
+use Rattle.std.proofs.Common.{Ok}
 use Prim.Native.Nat.{ℕ, ◌+◌, ◌*◌, ◌%◌, ◌≤◌, ◌<◌}
 use mathlib.Core.Path.{◌≡◌, refl, sym, ap, ap₂, subst, ◌∙◌}
 use mathlib.Core.List.{List, [], ◌∷◌}
@@ -18,7 +19,7 @@ use Rattle.packet.proofs.Packing.{length-packet, packet-at, packet-every}
 use Rattle.numbers.specs.Bases.{minus, base_sequence, base_timestamp}
 use Rattle.numbers.specs.Place.{differ, at_distance, with_held, decided}
 use Rattle.numbers.proofs.PlaceLaws.{same_numbers}
-use Rattle.holding.specs.Group.{is_nothing, begun, numbers_of, held_at, bundle_at, with_packet}
+use Rattle.holding.specs.Group.{is_nothing, begun, held_at, bundle_at, with_packet}
 use Rattle.bundle.specs.Bundles.{same_bundles}
 use Rattle.bundle.specs.LaidOut.{laid}
 use Rattle.holding.specs.declared.Holding.{Holding}
@@ -32,12 +33,9 @@ use Rattle.knowledge.proofs.PacketLaws.{packets-refl}
 use Rattle.knowledge.proofs.PutLaws.{Keeps, with-head, put-box, put-knows, put-others, begun-keeps, begun-lost}
 use Rattle.session.proofs.Ends.{fresh-open}
 use Rattle.capture.proofs.Staying.{open-with}
-use Rattle.session.specs.Session.{fresh, vacant, is_open, accept, refuse, with_group, pour_made, copied, group_before}
+use Rattle.session.specs.Session.{Offered, Arrival, fresh, vacant, is_open, accept, refuse, with_group, pour_made, copied, poured_before, group_before}
 use Rattle.session.specs.Session.{begins, belongs, placed_by, placed, arrival, judged, received, offered}
 use Rattle.session.specs.declared.Session.{Session}
-use Rattle.session.specs.declared.Offered.{Offered}
-use Rattle.session.specs.declared.Arrival.{Arrival}
-use Rattle.session.specs.declared.Taken.TheVariants.{Accepted}
 use Rattle.answers.specs.Outputs.{octets}
 use Rattle.entries.specs.Entries.{entries_of}
 use Rattle.claims.specs.Joinings.{HasRoom, EveryPlaceInTime}
@@ -64,7 +62,7 @@ known_as g n e = ap (λ (t : Bool). cond t (sent_packet g n) unheard) e
 
 -- ---- a session that was just opened
 pub fresh_is_ready : FreshIsReady
-unfolding FreshIsReady fresh vacant group_before decided
+unfolding FreshIsReady fresh vacant group_before poured_before decided
 fresh_is_ready v form e source g = record {
   opened = fresh-open v source form e;
   for_source = refl;
@@ -101,7 +99,7 @@ exactly-as s g ds es h x =
 
 -- what one more offer does
 pub record OneMore {v : Voice} {form : Form} (s : Session) (g : Sent v form) (n : ℕ) (ds : List ℕ) : Type 0 where
-  pub told : (offer_one s g n).answer ≡ Accepted 0
+  pub told : (offer_one s g n).answer ≡ Ok 0
   pub after : HoldsExactly (offer_one s g n).session g (n ∷ ds)
 
 -- ---- packet n is offered to a session that holds the group
@@ -146,10 +144,10 @@ module _ (v : Voice) (m : HasRoom v) (form : Form) (g : Sent v form) (n : ℕ) (
         knows = λ i l. go i l (eqb i n) refl;
       }
     where
-      in-h : n ≤ h.l
+      in-h : n ≤ h.numbers.l
       in-h = omega (arith, o.same_length)
 
-      many-h : length ours ≡ h.b
+      many-h : length ours ≡ h.numbers.b
       many-h = ours-many ∙ sym o.same_bundle
 
       go : (i : ℕ) → i < packets_of v.shape → (t : Bool) → eqb i n ≡ t → known_of v (with_packet v.shape h n (laid v.shape ours)) i ≡ cond (t || among i ds) (sent_packet g.group i) unheard
@@ -162,15 +160,15 @@ module _ (v : Voice) (m : HasRoom v) (form : Form) (g : Sent v form) (n : ℕ) (
   -- what becomes of it: the same again, or put in
   module _ (s : Session) (ds : List ℕ) (x : HoldsExactly s g ds) where
     in_place : offer_one s g n ≡ belongs v.shape s (arrival v.shape (numbered (sent_numbers g.group) n) (stamped (sent_numbers g.group) n) g.group.l n ours)
-    unfolding placed group_before decided with_held at_distance differ numbers_of placed_by arrival
+    unfolding placed group_before decided with_held at_distance differ placed_by arrival
     in_place =
         let h = s.group in
         let o = x.part.of_group in
         let r : read_as v.table s.form (g.payload n) ≡ packet g.group.l n (g.d n) ours = rw x.in_form (g.read n le) in
-        let z : minus 16 (base_sequence (numbered (sent_numbers g.group) n) n) h.sequence ≡ 0 = rw (base-is, o.base) (no_distance g.group.sequence g.group.sequence_fits) in
-        let same-l = eq-eqb g.group.l h.l (sym o.same_length) in
-        let same-b = eq-eqb (length ours) h.b (ours-many ∙ sym o.same_bundle) in
-        let same-time = eq-eqb (base_timestamp (stamped (sent_numbers g.group) n) n) h.timestamp (time-is ∙ sym o.time) in
+        let z : minus 16 (base_sequence (numbered (sent_numbers g.group) n) n) h.numbers.sequence ≡ 0 = rw (base-is, o.base) (no_distance g.group.sequence g.group.sequence_fits) in
+        let same-l = eq-eqb g.group.l h.numbers.l (sym o.same_length) in
+        let same-b = eq-eqb (length ours) h.numbers.b (ours-many ∙ sym o.same_bundle) in
+        let same-time = eq-eqb (base_timestamp (stamped (sent_numbers g.group) n) n) h.numbers.timestamp (time-is ∙ sym o.time) in
         offer-read v s g.group.source (numbered (sent_numbers g.group) n) (stamped (sent_numbers g.group) n) g.group.l n (g.d n) ours (g.payload n) x.still_open x.for_source r
         ∙ simp (some-held v h x.part.box, z, same-l, same-b, same-time)
 
@@ -250,7 +248,7 @@ offers v m form g s ds (n ∷ ns) x w =
 
 -- ---- the first packet begins the group
 pub record First {v : Voice} {form : Form} (s : Session) (g : Sent v form) (n : ℕ) : Type 0 where
-  pub told : (offer_one s g n).answer ≡ Accepted (lost_before v.shape s (sent_numbers g.group))
+  pub told : (offer_one s g n).answer ≡ Ok (lost_before v.shape s (sent_numbers g.group))
   pub after : HoldsExactly (offer_one s g n).session g (n ∷ [])
 
 module _ (v : Voice) (m : HasRoom v) (form : Form) (g : Sent v form) (n : ℕ) (le : n ≤ g.group.l) (s : Session) (y : Ready v form s g.group.source (sent_numbers g.group)) where
@@ -285,7 +283,7 @@ module _ (v : Voice) (m : HasRoom v) (form : Form) (g : Sent v form) (n : ℕ) (
   pub reported-is : y.reported ≡ lost_before v.shape s (sent_numbers g.group)
   unfolding LostFramesByFormula accept
   reported-is =
-      let told : (offer_one s g n).answer ≡ Accepted y.reported = ap (λ (z : Offered). z.answer) (begun_first ∙ begins-so y.reported) in
+      let told : (offer_one s g n).answer ≡ Ok y.reported = ap (λ (z : Offered). z.answer) (begun_first ∙ begins-so y.reported) in
       lost_frames_by_formula v s g.group.source _ _ (g.payload n) g.group.l n (g.d n) mine was_read y.reported told ∙ ap (lost_before v.shape s) came-numbers
 
   none-known : (i : ℕ) → i < packets_of v.shape → known_of v none i ≡ unheard

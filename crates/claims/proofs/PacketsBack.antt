@@ -1,4 +1,5 @@
 -- Write after read of packets, and the header-free writer's round trips, of entries of any kind. Assumes nothing.
+use Rattle.std.proofs.Common.{Option, Some, None}
 use Prim.Native.Nat.{ℕ, ◌+◌, ◌*◌, ◌-◌, ◌≤◌, ◌<◌}
 use mathlib.Core.Path.{◌≡◌, refl, sym, ap, ap₂, subst, ◌∙◌}
 use mathlib.Core.List.{List, [], ◌∷◌, ◌++◌}
@@ -16,8 +17,6 @@ use Rattle.form.specs.Agreed.{in_range}
 use Rattle.answers.specs.Outputs.{octets}
 use Rattle.form.specs.declared.Limits.{Limits}
 use Rattle.frame.specs.declared.Row.{Row}
-use Rattle.frame.specs.declared.Lookup.{Lookup}
-use Rattle.frame.specs.declared.Lookup.TheVariants.{Found, Missing}
 use Rattle.form.specs.declared.Form.TheVariants.{HeaderFree, Interleaved}
 use Rattle.frame.proofs.PlacesLaws.{every-so}
 use Rattle.frame.specs.declared.Vocoder.TheVariants.{Evrc}
@@ -127,16 +126,16 @@ again v m p l n d gs e o h q =
 -- what a sendable frame is
 record SendableRow (v : FrameTable) (f : Frame) : Type 0 where
   r : Row
-  row : row_of v f.type ≡ Found r
+  row : row_of v f.type ≡ Some r
   long : length f.body ≡ r.octets
   sent : r.sent ≡ true
 
 sendable-row : (v : FrameTable) (f : Frame) → sendable v f.type f.body ≡ true → SendableRow v f
 sendable-row v f e = go (row_of v f.type) refl e
   where
-    go : (l : Lookup) → row_of v f.type ≡ l → sendable_as l f.body ≡ true → SendableRow v f
-    go Missing q x = apart (cc)
-    go (Found r) q x =
+    go : (l : Option Row) → row_of v f.type ≡ l → sendable_as l f.body ≡ true → SendableRow v f
+    go None q x = apart (cc)
+    go (Some r) q x =
         let a = both_true (eqb (length f.body) r.octets && eqb (low_bits (get_or f.body (r.octets - 1) 0) r.spare) 0) r.sent x in
         let b = both_true (eqb (length f.body) r.octets) (eqb (low_bits (get_or f.body (r.octets - 1) 0) r.spare) 0) a.0 in
         record { r = r; row = q; long = eqb-true (length f.body) r.octets b.0; sent = a.1 }
@@ -181,19 +180,19 @@ free-ok v f e = let a = both_true (ltb 0 (length f.body)) (sendable v f.type f.b
 -- the row of a type that may be sent is told by its size
 record Told (v : FrameTable) (n t : ℕ) : Type 0 where
   r : Row
-  row : row_with v n ≡ Found r
+  row : row_with v n ≡ Some r
   kind : r.kind ≡ t
 
-told-kind : (v : FrameTable) (n k : ℕ) (l : Lookup) → row_with v n ≡ l → T (kind_is l k) → Told v n k
-told-kind v n k Missing q h = absurd h
-told-kind v n k (Found r) q h = record { r = r; row = q; kind = eqb→eq r.kind k h }
+told-kind : (v : FrameTable) (n k : ℕ) (l : Option Row) → row_with v n ≡ l → T (kind_is l k) → Told v n k
+told-kind v n k None q h = absurd h
+told-kind v n k (Some r) q h = record { r = r; row = q; kind = eqb→eq r.kind k h }
 
-told : (v u : FrameTable) (t : ℕ) (r : Row) → T (tells v u) → row_of u t ≡ Found r → r.sent ≡ true → 0 < r.octets → Told v r.octets t
+told : (v u : FrameTable) (t : ℕ) (r : Row) → T (tells v u) → row_of u t ≡ Some r → r.sent ≡ true → 0 < r.octets → Told v r.octets t
 unfolding row_of
 told v [] t r h e s o = apart (cc)
 told v (x ∷ u) t r h e s o = go (eqb t x.kind) refl e (λ y. told v u t r (both_hold (cond (x.sent && ltb 0 x.octets) (kind_is (row_with v x.octets) x.kind) true) (tells v u) h).1 y s o)
   where
-    go : (b : Bool) → eqb t x.kind ≡ b → cond b (Found x) (row_of u t) ≡ Found r → (row_of u t ≡ Found r → Told v r.octets t) → Told v r.octets t
+    go : (b : Bool) → eqb t x.kind ≡ b → cond b (Some x) (row_of u t) ≡ Some r → (row_of u t ≡ Some r → Told v r.octets t) → Told v r.octets t
     go false q y i = i y
     go true q y i =
         let same : x ≡ r = cc in
@@ -222,21 +221,21 @@ header_free_read_after_write kind h es w e = go (entries_in kind rule.HeaderFree
         let n : length w ≡ s.r.octets = ap length (sym b) ∙ s.long in
         let z : length w ≡ 0 → ⊥ = λ y. absurd (omega (arith, a.0, s.long)) in
         let g : group_in kind es ≡ f ∷ [] = ap frames_in (read-any kind rule.HeaderFree 0 es (f ∷ []) q) in
-        let row : row_of_size kind.table (length w) ≡ Found t.r = rw (ne_eqb (length w) 0 z) (ap (row_with kind.table) n ∙ t.row) in
+        let row : row_of_size kind.table (length w) ≡ Some t.r = rw (ne_eqb (length w) 0 z) (ap (row_with kind.table) n ∙ t.row) in
         rw (row, g) (ap₂ (λ (c : ℕ) (y : List ℕ). packet 0 0 0 (record { type = c; body = y } ∷ [])) t.kind (sym b))
 
 pub header_free_write_after_read : HeaderFreeWriteAfterRead
 unfolding HeaderFreeWriteAfterRead HeaderFreeWriterWrites SendableIsWritten read_as payload.one_body
 header_free_write_after_read kind h p l n d f e s = go (eqb (length p) 0) refl e
   where
-    here : (k : Lookup) → 0 < length p → payload.one_body k p ≡ packet l n d (f ∷ []) → header_free_made kind HeaderFree (entries_of (f ∷ [])) ≡ octets p
-    here Missing z x = apart (cc)
-    here (Found r) z x =
+    here : (k : Option Row) → 0 < length p → payload.one_body k p ≡ packet l n d (f ∷ []) → header_free_made kind HeaderFree (entries_of (f ∷ [])) ≡ octets p
+    here None z x = apart (cc)
+    here (Some r) z x =
         let b : p ≡ f.body = cc in
         let y = (sendable_is_written kind h).one f s (omega (arith, ap length b)) in
         header_free_writer_writes kind (entries_of (f ∷ [])) f y ∙ ap octets (sym b)
 
-    go : (c : Bool) → eqb (length p) 0 ≡ c → payload.one_body (cond c Missing (row_with kind.table (length p))) p ≡ packet l n d (f ∷ []) →
+    go : (c : Bool) → eqb (length p) 0 ≡ c → payload.one_body (cond c None (row_with kind.table (length p))) p ≡ packet l n d (f ∷ []) →
         header_free_made kind HeaderFree (entries_of (f ∷ [])) ≡ octets p
     go true q x = apart (cc)
     go false q x = here (row_with kind.table (length p)) (let z = eqb-false (length p) 0 q in omega arith) x

@@ -1,4 +1,5 @@
 -- What the place of a refusal says of the octets. Assumes nothing.
+use Rattle.std.proofs.Common.{Some}
 use Prim.Native.Nat.{ℕ, zero, suc, ◌+◌, ◌-◌, ◌≤◌, ◌<◌}
 use mathlib.Core.Path.{◌≡◌, refl, ap, ◌∙◌}
 use mathlib.Core.Logic.{◌⊎◌, inl, inr}
@@ -12,7 +13,6 @@ use borrow.Author.Tests.{leb-true, leb-false}
 use Rattle.octets.proofs.Logic.{apart}
 use Rattle.octets.specs.Octets.{same_octets}
 use Rattle.answers.specs.Answers.{number_of, place_of}
-use Rattle.answers.specs.declared.Place.TheVariants.{Octet}
 use Rattle.answers.specs.declared.Refusal.{Refusal}
 use Rattle.answers.specs.declared.Refusal.TheVariants.{NoOctet, TableCut, ReservedType, TooManyFrames, BodiesCut, OctetsLeft, WrongOpening}
 use Rattle.frame.specs.FrameTable.{FrameTable, Frame, known}
@@ -41,7 +41,7 @@ neither n (inr (inl e)) = (λ h. omega arith, λ h. omega arith)
 neither n (inr (inr e)) = (λ h. omega arith, λ h. omega arith)
 
 -- each way to be refused
-inside-at : (v : FrameTable) (f : Form) (p : List ℕ) (r : Refusal) (at : ℕ) → Faulted v f p r → place_of r ≡ Octet at →
+inside-at : (v : FrameTable) (f : Form) (p : List ℕ) (r : Refusal) (at : ℕ) → Faulted v f p r → place_of r ≡ Some at →
     (at ≤ length p) × (number_of r ≡ 5 ⊎ number_of r ≡ 6 ⊎ number_of r ≡ 8 → at < length p)
 inside-at v f p r at (fault.unplaced _ n _) e = apart (cc)
 inside-at v f p r at (fault.cut_table i q c) e = let s : i ≡ at = cc in (omega arith, λ o. absurd ((neither 4 o).0 refl))

@@ -1,10 +1,10 @@
 -- What is seen of an outcome, the answer and what was lent by its names, from what the contracts of the calls tell of it. Assumes nothing.
+use Rattle.std.proofs.Common.{Result}
 use Prim.Native.Nat.{ℕ}
 use mathlib.Core.List.{List}
 use mathlib.Core.Path.{◌≡◌, ap}
 use denote.Ref.{Bor}
-use Rattle.answers.specs.declared.Written.{Written}
-use Rattle.session.specs.declared.Poured.{Poured}
+use Rattle.answers.specs.declared.Refusal.{Refusal}
 use Rattle.session.specs.declared.Session.{Session}
 use Rattle.session.specs.declared.Standing.{Standing}
 use Rattle.landing.specs.Host.{PacketTold, packet_told, FrameTold, frame_told, CountTold, count_told, WriteTold, write_told}
@@ -12,7 +12,8 @@ use Rattle.landing.specs.Host.{HoldingTold, holding_told}
 use Rattle.claims.specs.Call.{WithPlace}
 use Rattle.claims.specs.Calls.Lent.{LentDst, LentOut, LentSession, LentHolding, LentSessionOut, LentLNBD, LentKindStartSize}
 use Rattle.claims.specs.Calls.Lent.{LentCount, LentOutWritten, LentSessionLost, LentSessionOutWritten}
-use Rattle.claims.specs.Calls.Lent.{LentSourceSequenceTimestampLBHeld, LentLost, LentMarksRoom}
+use Rattle.claims.specs.Calls.Lent.{LentSourceSequenceTimestampLBHeld, LentLost, LentWholeSession, LentWholeSessionOut}
+use Rattle.claims.specs.Calls.Lent.{LentWholeStandingMarksRoom}
 
 -- ---- octets lent under one name
 abbrev pub dst-lent : List ℕ → LentDst
@@ -27,7 +28,10 @@ session-lent o = record { session = o }
 abbrev pub holding-lent : List ℕ → LentHolding
 holding-lent o = record { holding = o }
 
--- ---- all of a session but the types and bodies of its group
+-- ---- a session that is lent, whole and in parts
+abbrev pub whole-lent : Session → LentWholeSession
+whole-lent s = record { session = s }
+
 abbrev pub standing-in : Session → Standing
 standing-in s =
     record {
@@ -35,14 +39,13 @@ standing-in s =
       source = s.source;
       form = s.form;
       group_source = s.group.source;
-      numbers = record { sequence = s.group.sequence; timestamp = s.group.timestamp; l = s.group.l; b = s.group.b };
+      numbers = s.group.numbers;
       held = s.group.held;
-      poured = s.poured;
-      last = record { sequence = s.last_sequence; timestamp = s.last_timestamp; l = s.last_l; b = s.last_b };
+      last = s.last;
     }
 
-abbrev pub marks-room-lent : Session → LentMarksRoom
-marks-room-lent s = record { marks = s.group.marks; room = s.group.room }
+abbrev pub parts-lent : Session → LentWholeStandingMarksRoom
+parts-lent s = record { standing = standing-in s; marks = s.group.marks; room = s.group.room }
 
 -- ---- an answer alone, a reference alone, octets alone, and an answer with octets
 abbrev pub alone : {A : Type 0} → A → A × Unit {0}
@@ -51,17 +54,17 @@ alone x = (x, tt)
 abbrev pub reference : Bor (List ℕ) → (List ℕ × (ℕ × ℕ)) × Unit {0}
 reference x = ((x.now, x.ref_ptr), tt)
 
-abbrev pub only : {X : Type 0} → (List ℕ → X) → List ℕ → Unit {0} × X
+abbrev pub only : {A X : Type 0} → (A → X) → A → Unit {0} × X
 only lent o = (tt, lent o)
 
 abbrev pub answer-with : {A X : Type 0} → (List ℕ → X) → A → List ℕ → A × X
 answer-with lent x o = (x, lent o)
 
--- ---- a pouring: the session is in the answer, or lent
-abbrev pub poured : Written → List ℕ → Session → Poured × LentOut
-poured x out session = (record { answer = x; session = session }, record { out = out })
+-- ---- a pouring: the session is lent whole, or as octets
+abbrev pub poured : Result ℕ Refusal → List ℕ → Session → (Result ℕ Refusal) × LentWholeSessionOut
+poured x out session = (x, record { session = session; out = out })
 
-abbrev pub lent-poured : Written → List ℕ → List ℕ → Written × LentSessionOut
+abbrev pub lent-poured : Result ℕ Refusal → List ℕ → List ℕ → (Result ℕ Refusal) × LentSessionOut
 lent-poured x out session = (x, record { session = session; out = out })
 
 -- ---- what a host is told, and the session beside it

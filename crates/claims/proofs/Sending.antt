@@ -1,4 +1,5 @@
 -- Our writers send groups that demand 3 speaks of. Assumes nothing.
+use Rattle.std.proofs.Common.{Option, Some, None}
 use Prim.Native.Nat.{ℕ, ◌-◌, ◌≤◌, ◌<◌, zero-le}
 use mathlib.Core.Path.{◌≡◌, refl, sym, ap, subst, ◌∙◌}
 use mathlib.Core.List.{List, [], ◌∷◌}
@@ -10,6 +11,7 @@ use borrow.Author.Tests.{eqb-true}
 use Rattle.octets.proofs.Logic.{apart, both_true}
 use Rattle.frame.specs.declared.Vocoder.TheVariants.{Evrc}
 use Rattle.frame.proofs.PlacesLaws.{every-at, every-so}
+use Rattle.frame.specs.declared.Row.{Row}
 use Rattle.frame.specs.FrameTable.{rows_of, FrameTable, Frame, row_of, erasure, low_bits, sendable, sendable_as, AllListed, Every}
 use Rattle.frame.specs.Places.{up_to, frame_at}
 use Rattle.answers.specs.Outputs.{octets}
@@ -23,8 +25,6 @@ use Rattle.payload.specs.Payload.{packet, read_as}
 use Rattle.entries.specs.Kind.{Kind}
 use Rattle.entries.specs.Entries.{EntriesRead, frames, entries_in, frames_in, allowed}
 use Rattle.entries.proofs.Written.{entries-listed, entries-ok}
-use Rattle.frame.specs.declared.Lookup.{Lookup}
-use Rattle.frame.specs.declared.Lookup.TheVariants.{Found, Missing}
 use Rattle.entries.specs.Entries as entry
 use Rattle.entries.specs.declared.Rule.TheVariants as rule
 use Rattle.entries.proofs.Clearing.{read-any}
@@ -216,9 +216,9 @@ tables_never_send_erasures Evrc = tt
 sendable-sent : (v : FrameTable) → T (never_sent v) → (f : Frame) → sendable v f.type f.body ≡ true → is_erasure f ≡ false
 sendable-sent v t f e = go (eqb f.type erasure) refl
   where
-    not-sent : (k : Lookup) → T (not (sent_of k)) → (b : List ℕ) → sendable_as k b ≡ true → ⊥
-    not-sent Missing x b q = apart (cc)
-    not-sent (Found r) x b q = both r.sent x (both_true (eqb (length b) r.octets && eqb (low_bits (get_or b (r.octets - 1) 0) r.spare) 0) r.sent q).1
+    not-sent : (k : Option Row) → T (not (sent_of k)) → (b : List ℕ) → sendable_as k b ≡ true → ⊥
+    not-sent None x b q = apart (cc)
+    not-sent (Some r) x b q = both r.sent x (both_true (eqb (length b) r.octets && eqb (low_bits (get_or b (r.octets - 1) 0) r.spare) 0) r.sent q).1
       where
         both : (u : Bool) → T (not u) → u ≡ true → ⊥
         both true y z = y

@@ -1,4 +1,5 @@
 -- What holds of every session. Assumes nothing.
+use Rattle.std.proofs.Common.{Ok, Err}
 use Prim.Native.Nat.{ℕ, ◌+◌}
 use mathlib.Core.Path.{◌≡◌, refl, sym, ap, ◌∙◌}
 use mathlib.Core.List.{List, [], ◌∷◌}
@@ -15,17 +16,14 @@ use Rattle.answers.specs.declared.Refusal.TheVariants.{NotApplicable}
 use Rattle.payload.specs.Payload.{packet}
 use Rattle.entries.specs.Entries.{entries_of}
 use Rattle.numbers.specs.Place.{differ, at_distance, with_held, decided}
-use Rattle.holding.specs.Group.{numbers_of, bundle_at, holds}
+use Rattle.holding.specs.Group.{bundle_at, holds}
 use Rattle.bundle.specs.Bundles.{same_bundles}
 use Rattle.bundle.specs.LaidOut.{laid}
 use Rattle.holding.proofs.GroupLaws.{nothing_is}
 use Rattle.pouring.specs.Pouring.{in_time, poured}
-use Rattle.session.specs.Session.{vacant, never_opened, fresh, opened_for, is_open, refuse, accept}
-use Rattle.session.specs.Session.{group_before, begins, belongs, placed_by, placed, arrival, judged, received, offered}
+use Rattle.session.specs.Session.{Arrival, Offered, vacant, never_opened, fresh, opened_for, is_open, refuse, accept}
+use Rattle.session.specs.Session.{poured_before, group_before, begins, belongs, placed_by, placed, arrival, judged, received, offered}
 use Rattle.session.proofs.Ends.{Ends, refuses, places, Seen, kept, took, seen, offer-ends, fresh-open, refused-keeps}
-use Rattle.session.specs.declared.Arrival.{Arrival}
-use Rattle.session.specs.declared.Offered.{Offered}
-use Rattle.session.specs.declared.Taken.TheVariants.{Accepted, Refused}
 use Rattle.knowledge.proofs.PacketLaws.{packets-refl}
 use Rattle.claims.specs.Sessions.{RefusedOfferChangesNothing, AnotherSourceIs10, AnotherSourcesWordsAreNotHeard, OpeningForgets}
 use Rattle.claims.specs.Sessions.{EndingForgets, EndedTakesNothing, FirstPacketBeginsAlone, RepeatChangesNothing, lost_before}
@@ -40,12 +38,12 @@ pub lost_frames_by_formula : LostFramesByFormula
 unfolding LostFramesByFormula refuse accept
 lost_frames_by_formula v s source q t p l n d fs r lost e = go (offered v s source q t p) (offer-ends v s source q t p) e
   where
-    counted : (m : ℕ) (o : Offered) → Seen s m o → o.answer ≡ Accepted lost → lost ≡ m
-    counted m o (kept x f) h = let z : Refused x ≡ Accepted lost = sym (ap (λ (y : Offered). y.answer) f) ∙ h in apart (cc)
-    counted m o (took u f) h = let z : Accepted m ≡ Accepted lost = sym (ap (λ (y : Offered). y.answer) f) ∙ h in cc
+    counted : (m : ℕ) (o : Offered) → Seen s m o → o.answer ≡ Ok lost → lost ≡ m
+    counted m o (kept x f) h = let z : Err x ≡ Ok lost = sym (ap (λ (y : Offered). y.answer) f) ∙ h in apart (cc)
+    counted m o (took u f) h = let z : Ok m ≡ Ok lost = sym (ap (λ (y : Offered). y.answer) f) ∙ h in cc
 
-    go : (o : Offered) → Ends v s source q t p o → o.answer ≡ Accepted lost → lost ≡ lost_before v.shape s (arrival v.shape q t l n fs).numbers
-    go o (refuses x k f) h = let z : Refused x ≡ Accepted lost = sym (ap (λ (y : Offered). y.answer) f) ∙ h in apart (cc)
+    go : (o : Offered) → Ends v s source q t p o → o.answer ≡ Ok lost → lost ≡ lost_before v.shape s (arrival v.shape q t l n fs).numbers
+    go o (refuses x k f) h = let z : Err x ≡ Ok lost = sym (ap (λ (y : Offered). y.answer) f) ∙ h in apart (cc)
     go o (places a b l' n' d' fs' c x) h =
         let z : packet l n d fs ≡ packet l' n' d' fs' = sym r ∙ c in
         let y : arrival v.shape q t l' n' fs' ≡ arrival v.shape q t l n fs = cc in
@@ -70,7 +68,7 @@ unfolding EndedTakesNothing offered is_open never_opened vacant
 ended_takes_nothing v source q t p = refl
 
 fresh-placed : (u : Shape) (source : ℕ) (form : Form) (a : Arrival) → placed u (fresh u source form) a ≡ begins u (fresh u source form) a 0
-unfolding placed group_before decided placed_by fresh vacant
+unfolding placed group_before poured_before decided placed_by fresh vacant
 fresh-placed u source form a = simp (nothing_is u)
 
 pub first_packet_begins_alone : FirstPacketBeginsAlone
@@ -79,7 +77,7 @@ first_packet_begins_alone v source form e q t p l n d fs r = rw (fresh-open v so
 
 -- ---- a repeat
 pub repeat_changes_nothing : RepeatChangesNothing
-unfolding RepeatChangesNothing offered received judged placed group_before decided with_held at_distance differ numbers_of placed_by belongs arrival
+unfolding RepeatChangesNothing offered received judged placed group_before decided with_held at_distance differ placed_by belongs arrival
 repeat_changes_nothing v s o q t l n d fs x p r =
     let z : same_bundles (bundle_at v.shape s.group n) (laid v.shape fs) ≡ true = rw x.frames (packets-refl (laid v.shape fs)) in
     simp (o, eq-eqb s.source s.source refl, r, x.some, x.base, eq-eqb _ _ x.same_length, eq-eqb _ _ x.same_bundle, eq-eqb _ _ x.time, x.held, z)

@@ -1,4 +1,5 @@
 -- A talk with silences, heard whole in order: its recording is the talk. Assumes nothing.
+use Rattle.std.proofs.Common.{Some, Err}
 use Prim.Native.Nat.{ℕ, zero, suc, ◌+◌, ◌-◌, ◌*◌, ◌%◌, ◌≤◌, ◌<◌}
 use mathlib.Core.Path.{◌≡◌, refl, sym, ap, ap₂, ◌∙◌}
 use mathlib.Core.List.{List, [], ◌∷◌, ◌++◌, map, map-append, append-nil, append_assoc}
@@ -10,7 +11,7 @@ use native.Mathlib.Omega.{arith}
 use lib.Dec.{eqb}
 use lib.ListN.{replicate}
 use lib.Seq.{ext_get_or}
-use borrow.Author.Tests.{eq-eqb}
+use borrow.Author.Tests.{eq-eqb, ne_eqb, le-leb, lt-leb}
 use Rattle.frame.specs.FrameTable.{Frame}
 use Rattle.frame.specs.Shape.{Voice, holding_shape, voice_with}
 use Rattle.frame.specs.Places.{up_to, no_frame, frame_at}
@@ -22,20 +23,17 @@ use Rattle.entries.specs.Entries.{entries_of}
 use Rattle.payload.specs.Payload.{packet, read_as}
 use Rattle.packet.specs.Packet.{packet_frames}
 use Rattle.numbers.specs.Bases.{minus}
-use Rattle.numbers.specs.Place.{distance, gap, pause, with_held, after_poured}
+use Rattle.numbers.specs.Place.{distance, gap, pause, at_distance, with_held}
 use Rattle.numbers.specs.declared.GroupNumbers.{GroupNumbers}
 use Rattle.numbers.specs.declared.Before.TheVariants as before
-use Rattle.numbers.specs.declared.Verdict.TheVariants as verdict
 use Rattle.numbers.proofs.PlaceLaws.{same_numbers}
 use Rattle.numbers.proofs.PlaceLaws as numbers
-use Rattle.holding.specs.Group.{numbers_of}
 use Rattle.holding.proofs.GroupLaws.{nothing_is}
 use Rattle.pouring.specs.Pouring.{in_time}
 use Rattle.pouring.proofs.PouringLaws.{entries-append}
-use Rattle.session.specs.Session.{fresh, group_before, last_numbers, arrival, refuse, pour_made, ended}
+use Rattle.session.specs.Session.{Offered, fresh, group_before, poured_before, arrival, refuse, pour_made, ended}
 use Rattle.session.specs.declared.Session.{Session}
-use Rattle.session.specs.declared.Offered.{Offered}
-use Rattle.session.proofs.SessionLaws.{one-held, one-poured, is-refused}
+use Rattle.session.proofs.SessionLaws.{one-held, none-held, is-refused}
 use Rattle.capture.specs.Capture.{Heard}
 use Rattle.capture.specs.Run.{Step, and_then, capture_form, first_session, poured_of, pouring, is_twelve, run_of, whole_run, entries_recorded, capture_recording}
 use Rattle.capture.proofs.RunLaws.{run-append}
@@ -140,8 +138,7 @@ module _ (kind : Kind) (r : HasRoom (voice_with kind.table)) where
         let e : pour_made v s ≡ octets (entries_of g.group.frames) = pours v r s x.still_open x.part.box ∙ ap (λ (fs : List Frame). octets (entries_of fs)) in_time_lem in
         rw e (record { session = refl; octets = refl })
 
-    held-numbers : numbers_of s.group ≡ sent_numbers g.group
-    unfolding numbers_of
+    held-numbers : s.group.numbers ≡ sent_numbers g.group
     held-numbers = let o = x.part.of_group in same_numbers o.base o.time o.same_length o.same_bundle
 
     -- ---- a group that follows it
@@ -152,12 +149,13 @@ module _ (kind : Kind) (r : HasRoom (voice_with kind.table)) where
       new = sent_numbers n.group
 
       -- its first packet is answered 12
-      is_later : with_held (numbers_of s.group) new ≡ verdict.Refused LaterGroup
+      is_later : with_held s.group.numbers new ≡ Err LaterGroup
+      unfolding with_held at_distance
       is_later =
           let d = distance (sent_numbers g.group) new in
           let some : d ≡ 0 → ⊥ = λ (e : d ≡ 0). absurd (omega (arith, later.behind)) in
           ap (λ (h : GroupNumbers). with_held h new) held-numbers
-          ∙ sym (numbers.later (sent_numbers g.group) new d refl some (omega (arith, later.behind)) later.near)
+          ∙ simp (ne_eqb d 0 some, lt-leb d g.group.l (omega (arith, later.behind)), le-leb d 32767 later.near)
 
       twelve : is_twelve (offer_one s n 0).answer ≡ true
       unfolding is_twelve refuse
@@ -166,19 +164,19 @@ module _ (kind : Kind) (r : HasRoom (voice_with kind.table)) where
           let a = arrival holding_shape (numbered new 0) (stamped new 0) n.group.l 0 fs in
           let f : read_as kind.table s.form (n.payload 0) ≡ packet n.group.l 0 (n.d 0) fs = rw x.in_form (n.read 0 (omega arith)) in
           let o = offer-read v s n.group.source (numbered new 0) (stamped new 0) n.group.l 0 (n.d 0) fs (n.payload 0) x.still_open (x.for_source ∙ sym same_source) f in
-          let w : with_held (numbers_of s.group) a.numbers ≡ verdict.Refused LaterGroup = ap (with_held (numbers_of s.group)) (arrives-with v r capture_form n 0 (omega arith)) ∙ is_later in
-          let d = numbers.one-held (before.Held (numbers_of s.group)) a.numbers (numbers_of s.group) refl in
-          let z = is-refused holding_shape s a (before.Held (numbers_of s.group)) (with_held (numbers_of s.group) a.numbers)
-          (one-held holding_shape s (numbers_of s.group) (some-held v s.group x.part.box) refl) d LaterGroup w in
+          let w : with_held s.group.numbers a.numbers ≡ Err LaterGroup = ap (with_held s.group.numbers) (arrives-with v r capture_form n 0 (omega arith)) ∙ is_later in
+          let d = numbers.one-held (before.Held s.group.numbers) a.numbers s.group.numbers refl in
+          let z = is-refused holding_shape s a (before.Held s.group.numbers) (with_held s.group.numbers a.numbers)
+          (one-held holding_shape s s.group.numbers (some-held v s.group x.part.box) refl) d LaterGroup w in
           ap (λ (y : Offered). is_twelve y.answer) (o ∙ sym z)
 
       -- once the group is poured, the session is ready for it
-      last-is : last_numbers (ended holding_shape s) ≡ sent_numbers g.group
-      unfolding last_numbers ended numbers_of
-      last-is = held-numbers
+      last-is : (ended holding_shape s).last ≡ Some (sent_numbers g.group)
+      unfolding ended
+      last-is = ap Some held-numbers
 
       is-ready : Ready v capture_form (ended holding_shape s) n.group.source new
-      unfolding ended
+      unfolding ended poured_before
       is-ready =
           record {
             opened = ended-open v s x.still_open x.part.box.some;
@@ -189,9 +187,8 @@ module _ (kind : Kind) (r : HasRoom (voice_with kind.table)) where
             would_begin =
                 sym
                 (numbers.frames-lost (sent_numbers g.group) new (later-gap (sent_numbers g.group) new later) k few silence
-                ∙ ap (λ (h : GroupNumbers). after_poured h new) (sym last-is)
-                ∙ numbers.one-poured (group_before holding_shape (ended holding_shape s)) new (last_numbers (ended holding_shape s))
-                (sym (one-poured holding_shape (ended holding_shape s) (last_numbers (ended holding_shape s)) (nothing_is holding_shape) refl refl)));
+                ∙ numbers.one-poured (group_before holding_shape (ended holding_shape s)) new (sent_numbers g.group)
+                (sym (none-held holding_shape (ended holding_shape s) (nothing_is holding_shape)) ∙ ap poured_before last-is));
           }
 
       -- and the frames of the silence are lost

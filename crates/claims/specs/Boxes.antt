@@ -1,11 +1,10 @@
 -- Demand 3, the other half: "two boxes, one slip".
-use Rattle.std.specs.Prelude.{ℕ, ◌<◌, ◌≡◌, List, [], ◌∷◌, Bool, false, ◌||◌}
+use Rattle.std.specs.Prelude.{ℕ, ◌<◌, ◌≡◌, List, [], ◌∷◌, Bool, false, ◌||◌, Ok}
 use Rattle.frame.specs.Shape.{Voice, packets_of}
 use Rattle.form.specs.declared.Form.{Form}
 use Rattle.holding.specs.declared.Holding.{Holding}
 use Rattle.knowledge.specs.Knowledge.{Among}
 use Rattle.session.specs.Session.{copied}
-use Rattle.answers.specs.declared.Answer.TheVariants.{Done}
 use Rattle.session.specs.declared.Session.{Session}
 use Rattle.claims.specs.Joinings.{HasRoom, Way, boxes, done, outcome}
 use Rattle.claims.specs.Offering.{SentGroup, Sent, among, HoldsExactly}
@@ -14,7 +13,7 @@ use Rattle.claims.specs.Offering.{SentGroup, Sent, among, HoldsExactly}
 unfoldable pub CopiedOut : Type 0
 CopiedOut =
     (v : Voice) (form : Form) (s : Session) (g : Sent v form) (ns : List ℕ) → HoldsExactly s g ns →
-    copied v s ≡ record { answer = Done; holding = s.group }
+    copied v s ≡ record { answer = (Ok tt); holding = s.group }
 
 -- some box was offered packet n
 abbrev pub offered_to : ℕ → (Holding → List ℕ) → List Holding → Bool
@@ -28,7 +27,7 @@ pub record HeardBy (v : Voice) (g : SentGroup v) (h : Holding) (ns : List ℕ) :
   pub same_group : sent.group ≡ g
   pub session : Session
   pub exactly : HoldsExactly session sent ns
-  pub copied_out : copied v session ≡ record { answer = Done; holding = h }
+  pub copied_out : copied v session ≡ record { answer = (Ok tt); holding = h }
 
 -- boxes that each were offered a part of the group, each in a form of its own, joined in any order and grouping, hold what one box would
 -- that was offered all of it

@@ -1,5 +1,5 @@
 -- Document 01, "Capture program": what holds of every capture. Of recordings of any kind.
-use Rattle.std.specs.Prelude.{ℕ, ◌+◌, ◌≤◌, ◌<◌, ◌≡◌, List, [], ◌∷◌, ◌++◌, map, true, false, cond, ◌&&◌, T, eqb, leb, length, take}
+use Rattle.std.specs.Prelude.{ℕ, ◌+◌, ◌≤◌, ◌<◌, ◌≡◌, List, [], ◌∷◌, ◌++◌, map, true, false, cond, ◌&&◌, T, eqb, leb, length, take, Err}
 use Rattle.std.specs.Prelude.{replicate, get_or}
 use Rattle.frame.specs.FrameTable.{Frame, single}
 use Rattle.frame.specs.Shape.{Voice, voice_with}
@@ -9,11 +9,10 @@ use Rattle.entries.specs.Entries.{entries_of}
 use Rattle.entries.specs.Entries as entries
 use Rattle.recording.specs.Recording.{recording_read}
 use Rattle.answers.specs.declared.Refusal.TheVariants.{NotApplicable}
-use Rattle.session.specs.declared.Taken.TheVariants.{Refused}
 use Rattle.capture.specs.Capture.{Heard, count_of, start_at, packets_in, good}
 use Rattle.capture.specs.Run.{capture_kind, capture_form, Step, first_session, lost_in, pouring, is_twelve, readied, answered_by, run_of}
 use Rattle.capture.specs.Run.{whole_run, entries_recorded, packet_answered, answer_of, capture_recording, largest}
-use Rattle.capture.specs.declared.Told.TheVariants as told
+use Rattle.capture.specs.declared.CaptureError.TheVariants.{BadCapture}
 use Rattle.claims.specs.Joinings.{HasRoom}
 use Rattle.claims.specs.Offering.{SentGroup, Sent, sent_numbers, numbered, stamped, Within, PouredPlaces}
 
@@ -115,10 +114,10 @@ TwelveIsNeverTold = (kind : Kind) (hs : List Heard) (i : ℕ) → is_twelve (pac
 
 -- 21 for no such packet
 unfoldable pub NoPacketAnswers21 : Type 0
-NoPacketAnswers21 = (kind : Kind) (hs : List Heard) (i : ℕ) → length hs ≤ i → packet_answered kind hs i ≡ Refused NotApplicable
+NoPacketAnswers21 = (kind : Kind) (hs : List Heard) (i : ℕ) → length hs ≤ i → packet_answered kind hs i ≡ Err NotApplicable
 
 -- before that 255, exactly if it is no capture
 unfoldable pub BadCaptureIsTold : Type 0
 BadCaptureIsTold =
     (kind : Kind) (c : List ℕ) (i : ℕ) →
-    (good c ≡ false → answer_of kind c i ≡ told.BadCapture) × (answer_of kind c i ≡ told.BadCapture → good c ≡ false)
+    (good c ≡ false → answer_of kind c i ≡ Err BadCapture) × (answer_of kind c i ≡ Err BadCapture → good c ≡ false)

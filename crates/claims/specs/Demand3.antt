@@ -2,9 +2,8 @@
 -- ready for it, of the form it was written in, under limits that admit it. Offer at least one of its packets, any of them, in any order,
 -- repeats allowed. Poured into a buffer with room, each place has the original frame if its packet was offered and an erasure if not."
 -- Over any builds of the calls that meet their contracts: whatever is written, offered and poured goes through these.
-use Rattle.std.specs.Prelude.{ℕ, ◌+◌, ◌*◌, ◌≤◌, ◌<◌, ◌≡◌, List, [], ◌∷◌, ◌++◌, length, take, drop}
-use Rattle.answers.specs.declared.Written.{Written}
-use Rattle.answers.specs.declared.Written.TheVariants.{Octets}
+use Rattle.std.specs.Prelude.{ℕ, ◌+◌, ◌*◌, ◌≤◌, ◌<◌, ◌≡◌, List, [], ◌∷◌, ◌++◌, length, take, drop, Result, Ok}
+use Rattle.answers.specs.declared.Refusal.{Refusal}
 use Rattle.form.specs.declared.Form.{Form}
 use Rattle.form.specs.declared.Form.TheVariants.{HeaderFree, Interleaved}
 use Rattle.form.specs.declared.Limits.{Limits}
@@ -14,13 +13,9 @@ use Rattle.entries.specs.Kind.{kind_of}
 use Rattle.entries.specs.Entries.{entries_of}
 use Rattle.numbers.specs.declared.GroupNumbers.{GroupNumbers}
 use Rattle.packet.specs.Packet.{group_in}
+use Rattle.session.specs.Session.{Offered}
 use Rattle.session.specs.declared.Session.{Session}
-use Rattle.session.specs.declared.Started.{Started}
-use Rattle.answers.specs.declared.Answer.TheVariants.{Done}
 use Rattle.landing.specs.Host.{named_form}
-use Rattle.landing.specs.declared.Named.TheVariants.{Agreed}
-use Rattle.session.specs.declared.Offered.{Offered}
-use Rattle.session.specs.declared.Taken.TheVariants.{Accepted}
 use Rattle.lending.specs.Laid.{session_in}
 use Rattle.claims.specs.Call.{Outcome, Build, WithPlace}
 use Rattle.claims.specs.Calls.Lent.{LentOut, LentSession, LentSessionLost}
@@ -33,8 +28,8 @@ use Rattle.claims.specs.Sending.{AdmitsIn}
 use Rattle.claims.specs.Missing.{OneMissing, Spread}
 
 -- a writer answered the count of these octets, and they stand first in its buffer
-pub record Wrote (x : Written × LentOut) (w : List ℕ) : Type 0 where
-  pub count : x.0 ≡ Octets (length w)
+pub record Wrote (x : (Result ℕ Refusal) × LentOut) (w : List ℕ) : Type 0 where
+  pub count : x.0 ≡ Ok (length w)
   pub front : take (length w) x.1.out ≡ w
 
 -- "our writer": a build of each of its two calls
@@ -73,9 +68,11 @@ pub record WrittenGroup (writers : Writers) : Type 0 where
   pub timestamp_fits : numbers.timestamp < 4294967296
   pub written : ByWriter writers numbers frames payload
 
--- its packet n, offered through `session::offer`
+-- its packet n, offered through `session::offer`: the answer, and the session that was lent
 abbrev pub offer_through : {writers : Writers} → Build session.offer → WrittenGroup writers → Session → ℕ → Offered
-offer_through offer g s n = (offer.run (s, (g.source, (numbered g.numbers n, (stamped g.numbers n, g.payload n)))) tt).0
+offer_through offer g s n =
+    let r = offer.run (g.source, (numbered g.numbers n, (stamped g.numbers n, g.payload n))) (record { session = s }) in
+    record { answer = r.0; session = r.1.session }
 
 -- its packets of these numbers, one after the other
 unfoldable pub offer_all_through : {writers : Writers} → Build session.offer → WrittenGroup writers → Session → List ℕ → Session
@@ -86,7 +83,7 @@ offer_all_through offer g s (n ∷ ns) = offer_all_through offer g (offer_throug
 unfoldable pub AcceptedThrough : {writers : Writers} → Build session.offer → WrittenGroup writers → Session → ℕ → List ℕ → Type 0
 AcceptedThrough offer g s lost [] = Unit {0}
 AcceptedThrough offer g s lost (n ∷ ns) =
-    ((offer_through offer g s n).answer ≡ Accepted lost) × AcceptedThrough offer g (offer_through offer g s n).session 0 ns
+    ((offer_through offer g s n).answer ≡ Ok lost) × AcceptedThrough offer g (offer_through offer g s n).session 0 ns
 
 -- the frames of every place, where these packets were offered
 pub record Restored {writers : Writers} (g : WrittenGroup writers) (ns : List ℕ) (frames : List Frame) : Type 0 where
@@ -106,8 +103,9 @@ pub record PouredThrough {writers : Writers} (pour : Build session.pour) (g : Wr
   pub frames : List Frame
   pub restored : Restored g ns frames
   pub answered : (out : List ℕ) → length (entries_of frames) ≤ length out →
-      (pour.run s (record { out = out })).0.answer ≡ Octets (length (entries_of frames))
-  pub poured : (out : List ℕ) → length (entries_of frames) ≤ length out → (pour.run s (record { out = out })).1.out ≡ poured_into out frames
+      (pour.run tt (record { session = s; out = out })).0 ≡ Ok (length (entries_of frames))
+  pub poured : (out : List ℕ) → length (entries_of frames) ≤ length out →
+      (pour.run tt (record { session = s; out = out })).1.out ≡ poured_into out frames
 
 -- the third demand of the order, of one group
 unfoldable pub Demand3 : Type 0
@@ -165,8 +163,9 @@ HostDemand3 =
 
 -- ---- "a session ready for it": one that was just opened, through `session::open` or `lv_session_open`, for every group of its source
 pub record OpenedIsReady : Type 0 where
-  pub opened : (s : Session) (source : ℕ) (form : Form) (x : Started) → Outcome session.«open» (s, (source, form)) tt x tt →
-      x.answer ≡ Done → (g : GroupNumbers) → Ready (voice_for form) form x.session source g
-  pub host : (source named l b : ℕ) (form : Form) → named_form named l b ≡ Agreed form → (o after : LentSession) →
+  pub opened : (s after : Session) (source : ℕ) (form : Form) →
+      Outcome session.«open» (source, form) (record { session = s }) (Ok tt) (record { session = after }) →
+      (g : GroupNumbers) → Ready (voice_for form) form after source g
+  pub host : (source named l b : ℕ) (form : Form) → named_form named l b ≡ Ok form → (o after : LentSession) →
       Outcome landing.lv_session_open (source, (named, (l, b))) o 0 after →
       (g : GroupNumbers) → Ready (voice_for form) form (session_in after.session) source g

@@ -148,3 +148,6 @@ pub record Determined : Type 0 where
   pub holding_same_packet_in : Fixed holding.same_packet_in
   pub pouring_pour_held_in : Fixed pouring.pour_held_in
   pub session_is_open_in : Fixed session.is_open_in
+  pub bundle_cells : Fixed bundle.bundle_cells
+  pub holding_parts : Fixed holding.holding_parts
+  pub holding_packet_of : Fixed holding.packet_of

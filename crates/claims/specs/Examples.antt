@@ -1,12 +1,11 @@
 -- Document 01, "Marked examples": P1 to P15, under a single claim; with the rows of document 02.
-use Rattle.std.specs.Prelude.{ℕ, zero, suc, ◌≡◌, true, false, List, [], ◌∷◌, ◌++◌, map, length, replicate}
+use Rattle.std.specs.Prelude.{ℕ, zero, suc, ◌≡◌, true, false, List, [], ◌∷◌, ◌++◌, map, length, replicate, Option, Some, None, Result}
+use Rattle.std.specs.Prelude.{Ok, Err}
 use Rattle.frame.specs.FrameTable.{Frame}
 use Rattle.frame.specs.Shape.{Voice}
 use Rattle.form.specs.Agreed.{table_of}
 use Rattle.form.specs.Agreed.{default_form}
 use Rattle.answers.specs.Answers.{number_of, place_of}
-use Rattle.answers.specs.declared.Place.{Place}
-use Rattle.answers.specs.declared.Place.TheVariants.{Octet, Nowhere}
 use Rattle.answers.specs.declared.Refusal.TheVariants.{ReservedType, AnotherSource, EarlierGroup, TooFarAhead, NotApplicable, OffTheClock}
 use Rattle.frame.specs.declared.Vocoder.TheVariants.{Evrc}
 use Rattle.entries.specs.Kind.{kind_of, evrc_opening}
@@ -14,27 +13,23 @@ use Rattle.entries.specs.Entries.{EntriesRead, entries_in, refused_entries}
 use Rattle.entries.specs.Entries as read
 use Rattle.entries.specs.declared.Rule.TheVariants.{Sendable}
 use Rattle.recording.specs.Recording.{recording_read}
-use Rattle.frame.specs.Places.{located_of, body_of}
+use Rattle.frame.specs.Places.{lies_at, located_of, body_of}
 use Rattle.form.specs.declared.Form.{Form}
 use Rattle.form.specs.declared.Form.TheVariants.{HeaderFree, Interleaved}
 use Rattle.frame.specs.declared.Located.{Located}
-use Rattle.frame.specs.declared.Located.TheVariants.{At}
 use Rattle.answers.specs.declared.Refusal.{Refusal}
-use Rattle.session.specs.Session.{is_open, offered}
+use Rattle.session.specs.Session.{Offered, is_open, offered}
 use Rattle.session.specs.declared.Session.{Session}
-use Rattle.session.specs.declared.Offered.{Offered}
-use Rattle.session.specs.declared.Taken.TheVariants.{Accepted, Refused}
 use Rattle.holding.specs.Group.{is_nothing}
 use Rattle.numbers.specs.Bases.{base_sequence, base_timestamp}
 use Rattle.numbers.specs.Place.{after_poured}
 use Rattle.numbers.specs.declared.GroupNumbers.{GroupNumbers}
 use Rattle.numbers.specs.declared.Verdict.{Verdict}
 use Rattle.numbers.specs.declared.Verdict.TheVariants.{Begins}
-use Rattle.numbers.specs.declared.Verdict.TheVariants as verdict
 use Rattle.capture.specs.Capture.{good}
 use Rattle.capture.specs.Run.{capture_kind, capture_recording, answer_of}
-use Rattle.capture.specs.declared.Told.{Told}
-use Rattle.capture.specs.declared.Told.TheVariants.{Answered}
+use Rattle.capture.specs.declared.CaptureError.{CaptureError}
+use Rattle.capture.specs.declared.CaptureError.TheVariants.{Refused}
 use Rattle.payload.specs.Payload.{Reading, packet, refused_payload, read_as}
 use Rattle.payload.specs.Shown.{given_as}
 use Rattle.claims.specs.Demand3.{Writers}
@@ -43,9 +38,9 @@ use Rattle.claims.specs.Pauses.{Spoken, Talk}
 -- what is said of a payload: L, N, B, D, where each frame lies and its body; or the number of the refusal and its place (02, i). Of a
 -- recording, or of entries given to a writer: the number of frames, or the same
 pub data Says : Type 0 where
-  holds : (l n b d : ℕ) → List Located → List (List ℕ) → Says
+  holds : (l n b d : ℕ) → List (Result Located Refusal) → List (List ℕ) → Says
   counts : ℕ → Says
-  number : ℕ → Place → Says
+  number : ℕ → Option ℕ → Says
 
 -- the numbers below n, from m on
 abbrev from : ℕ → ℕ → List ℕ
@@ -80,26 +75,26 @@ rows =
     record {
       form = default_form;
       octets = 0x08 ∷ 0x81 ∷ 0x01 ∷ 0x11 ∷ 0x11 ∷ 0x33 ∷ 0x33 ∷ [];
-      says = holds 1 0 2 0 (At 1 3 2 ∷ At 1 5 2 ∷ []) ((0x11 ∷ 0x11 ∷ []) ∷ (0x33 ∷ 0x33 ∷ []) ∷ []);
+      says = holds 1 0 2 0 (lies_at 1 3 2 ∷ lies_at 1 5 2 ∷ []) ((0x11 ∷ 0x11 ∷ []) ∷ (0x33 ∷ 0x33 ∷ []) ∷ []);
     } ∷
     -- P2 to P6, with their places (02, i)
-    record { form = default_form; octets = []; says = number 1 Nowhere } ∷
-    record { form = default_form; octets = 0x0A ∷ []; says = number 2 Nowhere } ∷
-    record { form = default_form; octets = 0x30 ∷ []; says = number 3 Nowhere } ∷
-    record { form = maximum_six; octets = 0x30 ∷ []; says = number 4 (Octet 1) } ∷
-    record { form = default_form; octets = 0x00 ∷ 0x81 ∷ []; says = number 4 (Octet 2) } ∷
-    record { form = default_form; octets = 0x00 ∷ 0x02 ∷ []; says = number 5 (Octet 1) } ∷
+    record { form = default_form; octets = []; says = number 1 None } ∷
+    record { form = default_form; octets = 0x0A ∷ []; says = number 2 None } ∷
+    record { form = default_form; octets = 0x30 ∷ []; says = number 3 None } ∷
+    record { form = maximum_six; octets = 0x30 ∷ []; says = number 4 (Some 1) } ∷
+    record { form = default_form; octets = 0x00 ∷ 0x81 ∷ []; says = number 4 (Some 2) } ∷
+    record { form = default_form; octets = 0x00 ∷ 0x02 ∷ []; says = number 5 (Some 1) } ∷
     -- P7: ten times 81, then 01
-    record { form = default_form; octets = 0x00 ∷ (replicate 10 0x81 ++ (0x01 ∷ [])); says = number 6 (Octet 11) } ∷
+    record { form = default_form; octets = 0x00 ∷ (replicate 10 0x81 ++ (0x01 ∷ [])); says = number 6 (Some 11) } ∷
     -- P8, P9
-    record { form = default_form; octets = 0x00 ∷ 0x01 ∷ 0x11 ∷ []; says = number 7 (Octet 2) } ∷
-    record { form = default_form; octets = 0x00 ∷ 0x01 ∷ 0x11 ∷ 0x11 ∷ 0x00 ∷ []; says = number 8 (Octet 4) } ∷
+    record { form = default_form; octets = 0x00 ∷ 0x01 ∷ 0x11 ∷ []; says = number 7 (Some 2) } ∷
+    record { form = default_form; octets = 0x00 ∷ 0x01 ∷ 0x11 ∷ 0x11 ∷ 0x00 ∷ []; says = number 8 (Some 4) } ∷
     -- P10: accepted, one Blank
-    record { form = default_form; octets = 0xC0 ∷ 0x00 ∷ []; says = holds 0 0 1 0 (At 0 2 0 ∷ []) ([] ∷ []) } ∷
+    record { form = default_form; octets = 0xC0 ∷ 0x00 ∷ []; says = holds 0 0 1 0 (lies_at 0 2 0 ∷ []) ([] ∷ []) } ∷
     -- P14: lengths 22, 0 and 5
-    record { form = HeaderFree; octets = replicate 22 0x55; says = holds 0 0 1 0 (At 4 0 22 ∷ []) (replicate 22 0x55 ∷ []) } ∷
-    record { form = HeaderFree; octets = []; says = number 9 Nowhere } ∷
-    record { form = HeaderFree; octets = replicate 5 0x55; says = number 9 Nowhere } ∷
+    record { form = HeaderFree; octets = replicate 22 0x55; says = holds 0 0 1 0 (lies_at 4 0 22 ∷ []) (replicate 22 0x55 ∷ []) } ∷
+    record { form = HeaderFree; octets = []; says = number 9 None } ∷
+    record { form = HeaderFree; octets = replicate 5 0x55; says = number 9 None } ∷
     []
 
 -- (02, i) octets that are judged besides: a payload, under maxima 5 and 10; a recording; entries that a packet is to be written of
@@ -128,23 +123,23 @@ pub record PlaceRow : Type 0 where
 abbrev pub place_rows : List PlaceRow
 place_rows =
     -- "for 4 the payload's length"; "for 5 and 6 the entry's place"
-    record { octets = payload (0x00 ∷ []); says = number 4 (Octet 1) } ∷
-    record { octets = payload (0x00 ∷ 0x81 ∷ 0x02 ∷ []); says = number 5 (Octet 2) } ∷
-    record { octets = payload (0x00 ∷ (replicate 10 0x81 ++ (0x02 ∷ []))); says = number 6 (Octet 11) } ∷
+    record { octets = payload (0x00 ∷ []); says = number 4 (Some 1) } ∷
+    record { octets = payload (0x00 ∷ 0x81 ∷ 0x02 ∷ []); says = number 5 (Some 2) } ∷
+    record { octets = payload (0x00 ∷ (replicate 10 0x81 ++ (0x02 ∷ []))); says = number 6 (Some 11) } ∷
     -- "for 7 the place of the first body that doesn't fit whole", which may be the payload's length
-    record { octets = payload (0x00 ∷ 0x01 ∷ []); says = number 7 (Octet 2) } ∷
-    record { octets = payload (0x00 ∷ 0x80 ∷ 0x81 ∷ 0x8E ∷ 0x03 ∷ 0xAA ∷ 0xAA ∷ []); says = number 7 (Octet 7) } ∷
+    record { octets = payload (0x00 ∷ 0x01 ∷ []); says = number 7 (Some 2) } ∷
+    record { octets = payload (0x00 ∷ 0x80 ∷ 0x81 ∷ 0x8E ∷ 0x03 ∷ 0xAA ∷ 0xAA ∷ []); says = number 7 (Some 7) } ∷
     -- "for 8 the first octet left over"
-    record { octets = payload (0x00 ∷ 0x8E ∷ 0x80 ∷ 0x0E ∷ 0x00 ∷ []); says = number 8 (Octet 4) } ∷
+    record { octets = payload (0x00 ∷ 0x8E ∷ 0x80 ∷ 0x0E ∷ 0x00 ∷ []); says = number 8 (Some 4) } ∷
     -- "Recordings do the same for 5 and 19, with the place of the entry octet", the opening octets counted
-    record { octets = recording (evrc_opening ++ (0x02 ∷ [])); says = number 5 (Octet 7) } ∷
-    record { octets = recording (evrc_opening ++ (0x01 ∷ 0x11 ∷ 0x11 ∷ 0x01 ∷ 0x11 ∷ [])); says = number 19 (Octet 10) } ∷
-    record { octets = recording (0x23 ∷ 0x21 ∷ 0x45 ∷ 0x56 ∷ 0x52 ∷ 0x43 ∷ 0x02 ∷ []); says = number 18 Nowhere } ∷
+    record { octets = recording (evrc_opening ++ (0x02 ∷ [])); says = number 5 (Some 7) } ∷
+    record { octets = recording (evrc_opening ++ (0x01 ∷ 0x11 ∷ 0x11 ∷ 0x01 ∷ 0x11 ∷ [])); says = number 19 (Some 10) } ∷
+    record { octets = recording (0x23 ∷ 0x21 ∷ 0x45 ∷ 0x56 ∷ 0x52 ∷ 0x43 ∷ 0x02 ∷ []); says = number 18 None } ∷
     record { octets = recording (evrc_opening ++ (0x01 ∷ 0x11 ∷ 0x11 ∷ 0x0E ∷ [])); says = counts 2 } ∷
     -- "writers .. pass the place on": the first of the entries is at 0; 17 has none
-    record { octets = entries (0x01 ∷ 0x11 ∷ 0x11 ∷ 0x02 ∷ []); says = number 5 (Octet 3) } ∷
-    record { octets = entries (0x01 ∷ 0x11 ∷ []); says = number 19 (Octet 0) } ∷
-    record { octets = entries (0x0E ∷ []); says = number 17 Nowhere } ∷
+    record { octets = entries (0x01 ∷ 0x11 ∷ 0x11 ∷ 0x02 ∷ []); says = number 5 (Some 3) } ∷
+    record { octets = entries (0x01 ∷ 0x11 ∷ []); says = number 19 (Some 0) } ∷
+    record { octets = entries (0x0E ∷ []); says = number 17 None } ∷
     []
 
 -- (02, i) a capture of which each packet is told what it was answered: taken; 5 at octet 1 of its payload; another source; a later group,
@@ -159,26 +154,26 @@ four_packets =
     0x00 ∷ 0x00 ∷ 0x00 ∷ 0x02 ∷ 0x00 ∷ 0x00 ∷ 0x00 ∷ []
 
 -- what its packets were answered
-abbrev pub four_answers : List Told
+abbrev pub four_answers : List (Result ℕ CaptureError)
 four_answers =
-    Answered (Accepted 0) ∷
-    Answered (Refused (ReservedType 1)) ∷
-    Answered (Refused AnotherSource) ∷
-    Answered (Accepted 1) ∷
-    Answered (Refused NotApplicable) ∷
+    Ok 0 ∷
+    Err (Refused (ReservedType 1)) ∷
+    Err (Refused AnotherSource) ∷
+    Ok 1 ∷
+    Err (Refused NotApplicable) ∷
     []
 
 -- an open session that holds a group of base FFFF and L 1
 pub record HoldsP15 (v : Voice) (s : Session) : Type 0 where
   pub opened : is_open v s ≡ true
   pub some : is_nothing v.shape s.group ≡ false
-  pub base : s.group.sequence ≡ 0xFFFF
-  pub length_one : s.group.l ≡ 1
+  pub base : s.group.numbers.sequence ≡ 0xFFFF
+  pub length_one : s.group.numbers.l ≡ 1
 
 -- an offer that is refused by this number, and leaves the session as it was
 pub record RefusedBy (told : ℕ) (s : Session) (o : Offered) : Type 0 where
   pub refusal : Refusal
-  pub answered : o.answer ≡ Refused refusal
+  pub answered : o.answer ≡ Err refusal
   pub by_number : number_of refusal ≡ told
   pub unchanged : o.session ≡ s
 
@@ -199,37 +194,37 @@ pub record P15 : Type 0 where
 pub record PauseRow : Type 0 where
   pub poured : GroupNumbers
   pub new : GroupNumbers
-  pub decides : Verdict
+  pub decides : Result Verdict Refusal
 
 -- numbers of a group
 abbrev at : ℕ → ℕ → ℕ → ℕ → GroupNumbers
 at sequence timestamp l b = record { sequence = sequence; timestamp = timestamp; l = l; b = b }
 
 -- after a group of base 5, base timestamp 1,000, L 1 and B 2: it ends at 1,640, and the next sequence number is 7
-abbrev after : ℕ → ℕ → Verdict → PauseRow
+abbrev after : ℕ → ℕ → Result Verdict Refusal → PauseRow
 after sequence timestamp v = record { poured = at 5 1000 1 2; new = at sequence timestamp 0 1; decides = v }
 
 -- the rows of (ii)
 abbrev pub pause_rows : List PauseRow
 pause_rows =
     -- "divided by 160": no pause, one frame, 3,000 frames; "16 is given if the quotient is over 3,000"
-    after 7 1640 (Begins 0) ∷
-    after 7 1800 (Begins 1) ∷
-    after 7 481640 (Begins 3000) ∷
-    after 7 481800 (verdict.Refused TooFarAhead) ∷
+    after 7 1640 (Ok (Begins 0)) ∷
+    after 7 1800 (Ok (Begins 1)) ∷
+    after 7 481640 (Ok (Begins 3000)) ∷
+    after 7 481800 (Err TooFarAhead) ∷
     -- "new 24 if the difference is no multiple of 160": half a frame; "order 13, 24, 16"
-    after 7 1720 (verdict.Refused OffTheClock) ∷
-    after 7 481801 (verdict.Refused OffTheClock) ∷
-    after 32775 1720 (verdict.Refused EarlierGroup) ∷
+    after 7 1720 (Err OffTheClock) ∷
+    after 7 481801 (Err OffTheClock) ∷
+    after 32775 1720 (Err EarlierGroup) ∷
     -- "the limit of 100 packets is dropped": 101 packets and 32,767 are missing, and the clock decides
-    after 108 1640 (Begins 0) ∷
-    after 32774 1800 (Begins 1) ∷
+    after 108 1640 (Ok (Begins 0)) ∷
+    after 32774 1800 (Ok (Begins 1)) ∷
     -- "modulo 4,294,967,296": a clock that goes back, by a frame and by 96 counts; one that begins anew
-    after 7 1480 (verdict.Refused OffTheClock) ∷
-    after 7 1544 (verdict.Refused TooFarAhead) ∷
-    record { poured = at 0xFFFF 0xFFFFFF60 0 1; new = at 0 160 0 1; decides = Begins 1 } ∷
+    after 7 1480 (Err OffTheClock) ∷
+    after 7 1544 (Err TooFarAhead) ∷
+    record { poured = at 0xFFFF 0xFFFFFF60 0 1; new = at 0 160 0 1; decides = Ok (Begins 1) } ∷
     -- "with the poured group's numbers"
-    record { poured = at 5 1000 1 2; new = at 7 1960 7 10; decides = Begins 2 } ∷
+    record { poured = at 5 1000 1 2; new = at 7 1960 7 10; decides = Ok (Begins 2) } ∷
     []
 
 -- the whole case: two packets of one group

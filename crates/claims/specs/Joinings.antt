@@ -1,8 +1,9 @@
 -- Demand 3, joining (document 01, "Joining" and "What the promises have to say"): over holdings as Groups defines them, all of one group
 -- and each holding at least one packet; any number of boxes, in every order and grouping. Over any
 -- shape and frame table that has room.
-use Rattle.std.specs.Prelude.{ℕ, ◌+◌, ◌*◌, ◌≤◌, ◌<◌, ◌≡◌, true, T, length}
+use Rattle.std.specs.Prelude.{ℕ, ◌+◌, ◌*◌, ◌≤◌, ◌<◌, ◌≡◌, true, T, length, Result, Ok, Err}
 use mathlib.Core.List.{List, [], ◌∷◌, ◌++◌, Permᴰ}
+use Rattle.answers.specs.declared.Refusal.{Refusal}
 use Rattle.frame.specs.declared.Vocoder.{Vocoder}
 use Rattle.frame.specs.FrameTable.{within, erases}
 use Rattle.frame.specs.Shape.{Voice, packets_of, voice_of}
@@ -14,13 +15,10 @@ use Rattle.answers.specs.Outputs.{octets}
 use Rattle.answers.specs.declared.Refusal.TheVariants.{PacketDiffers}
 use Rattle.entries.specs.Entries.{entries_of}
 use Rattle.packet.specs.Packet.{place_of}
-use Rattle.joining.specs.Joining.{same_group, refused_join, join_of}
+use Rattle.joining.specs.Joining.{Joined, same_group, refused_join, join_of}
 use Rattle.pouring.specs.Pouring.{in_time, poured}
 use Rattle.knowledge.specs.Knowledge.{Box, Known, known_of, frame_known, Among}
 use Rattle.holding.specs.declared.Holding.{Holding}
-use Rattle.answers.specs.declared.Answer.{Answer}
-use Rattle.answers.specs.declared.Answer.TheVariants.{Done, Refused}
-use Rattle.joining.specs.declared.Joined.{Joined}
 
 -- a voice whose cells have room for its frames: no body longer than a cell, and an erasure without a body
 pub record HasRoom (v : Voice) : Type 0 where
@@ -45,13 +43,13 @@ boxes (joining s t) = boxes s ++ boxes t
 
 -- an outcome that is a holding
 abbrev pub done : Holding → Joined
-done h = record { answer = Done; holding = h }
+done h = record { answer = (Ok tt); holding = h }
 
 -- the join of two outcomes; a refusal on the way ends it
-abbrev pub join_answers : Voice → Joined → Answer → Joined → Answer → Joined
-join_answers v j (Refused r) k y = j
-join_answers v j Done k (Refused r) = k
-join_answers v j Done k Done = join_of v j.holding k.holding
+abbrev pub join_answers : Voice → Joined → Result Unit Refusal → Joined → Result Unit Refusal → Joined
+join_answers v j (Err r) k y = j
+join_answers v j (Ok t) k (Err r) = k
+join_answers v j (Ok t) k (Ok u) = join_of v j.holding k.holding
 
 -- what a way of joining ends in
 unfoldable pub outcome : Voice → Way → Joined
@@ -132,8 +130,9 @@ EqualKnowledge =
 -- "Frame k of packet N stands at time place k x (L + 1) + N."
 pub record PouredInTime (v : Voice) (h : Holding) : Type 0 where
   pub entries : poured v h ≡ octets (entries_of (in_time v h))
-  pub count : length (in_time v h) ≡ (h.l + 1) * h.b
-  pub places : (n k : ℕ) → n ≤ h.l → k < h.b → frame_at (in_time v h) (place_of h.l n k) ≡ frame_known (known_of v h n) k
+  pub count : length (in_time v h) ≡ (h.numbers.l + 1) * h.numbers.b
+  pub places : (n k : ℕ) → n ≤ h.numbers.l → k < h.numbers.b →
+      frame_at (in_time v h) (place_of h.numbers.l n k) ≡ frame_known (known_of v h n) k
 
 -- every holding that holds a packet is poured so
 unfoldable pub EveryPlaceInTime : Type 0

@@ -1,6 +1,6 @@
 -- Document 01, "Session", on sessions and holdings in octets that a host lends ("Capture program"): what holds of every such octets. Over
 -- any frame table in a holding.
-use Rattle.std.specs.Prelude.{ℕ, ◌<◌, ◌≡◌, List, true, false, length, take, replicate}
+use Rattle.std.specs.Prelude.{ℕ, ◌<◌, ◌≡◌, List, true, false, length, take, replicate, None, is_some}
 use Rattle.octets.specs.Octets.{over, any_set}
 use Rattle.frame.specs.FrameTable.{Frame}
 use Rattle.frame.specs.Shape.{Voice, packets_of, holding_shape}
@@ -53,22 +53,20 @@ HoldingReadsBack = (h : Holding) → Shaped holding_shape h → AreOctets h.mark
 
 -- a session in which no group was poured has the numbers of none
 unfoldable pub NoneRemembered : Session → Type 0
-NoneRemembered s =
-    s.poured ≡ false → (s.last_sequence ≡ 0) × ((s.last_timestamp ≡ 0) × ((s.last_l ≡ 0) × (s.last_b ≡ 0)))
+NoneRemembered s = is_some s.last ≡ false → s.last ≡ None
 
 -- so it is with every session that a call reads or gives
 pub record NothingPouredNothingRemembered : Type 0 where
   pub opened : (source : ℕ) (form : Form) → NoneRemembered (opened_for holding_shape (never_opened holding_shape) source form).session
   pub lent : (o : List ℕ) → NoneRemembered (session_in o)
   pub offers : (v : Voice) (s : Session) (source sequence timestamp : ℕ) (p : List ℕ) →
-      NoneRemembered s → NoneRemembered (offered v s source sequence timestamp p).session
+      NoneRemembered (offered v s source sequence timestamp p).session
   pub pours : (s : Session) → NoneRemembered (ended holding_shape s)
 
--- the same for such a session
+-- what is laid out of a session reads back the same
 unfoldable pub SessionReadsBack : Type 0
 SessionReadsBack =
-    (s : Session) → NoneRemembered s → Shaped holding_shape s.group → AreOctets s.group.marks → (o : List ℕ) →
-    session_in (over o 0 (session_laid s)) ≡ s
+    (s : Session) → Shaped holding_shape s.group → AreOctets s.group.marks → (o : List ℕ) → session_in (over o 0 (session_laid s)) ≡ s
 
 -- "Octets of the layout that stand for nothing are zero": what counts as an open session is, laid out again, the octets it was read from
 unfoldable pub SessionLaysBack : Type 0

@@ -1,7 +1,7 @@
 -- Demand 3, offering: a group that was sent, any part of it offered in any order, repeats allowed, to a session that is ready for it.
 -- Over any shape and frame table that has room, and any packet format for which reading after writing holds: that law is the field
 -- `read` of `Sent`, and all that is asked of a format.
-use Rattle.std.specs.Prelude.{ℕ, ◌+◌, ◌*◌, ◌%◌, ◌≤◌, ◌<◌, ◌≡◌, List, [], ◌∷◌, Bool, true, false, cond, ◌||◌, eqb, length}
+use Rattle.std.specs.Prelude.{ℕ, ◌+◌, ◌*◌, ◌%◌, ◌≤◌, ◌<◌, ◌≡◌, List, [], ◌∷◌, Bool, true, false, cond, ◌||◌, eqb, length, Ok}
 use Rattle.frame.specs.FrameTable.{Frame, AllListed, erasure}
 use Rattle.frame.specs.Shape.{Voice, packets_of}
 use Rattle.frame.specs.Places.{frame_at}
@@ -16,11 +16,9 @@ use Rattle.holding.specs.Group.{is_nothing}
 use Rattle.holding.specs.declared.Holding.{Holding}
 use Rattle.pouring.specs.Pouring.{in_time}
 use Rattle.knowledge.specs.Knowledge.{Box, Known, unheard, known_of}
-use Rattle.session.specs.Session.{fresh, form_right, is_open, group_before, offered, pour_made}
+use Rattle.session.specs.Session.{Offered, fresh, form_right, is_open, group_before, offered, pour_made}
 use Rattle.entries.specs.Entries.{entries_of}
 use Rattle.session.specs.declared.Session.{Session}
-use Rattle.session.specs.declared.Offered.{Offered}
-use Rattle.session.specs.declared.Taken.TheVariants.{Accepted}
 use Rattle.claims.specs.Joinings.{HasRoom}
 use Rattle.claims.specs.Sessions.{lost_before, body_octets}
 
@@ -73,7 +71,7 @@ offer_all s g (n ∷ ns) = offer_all (offer_one s g n).session g ns
 -- every offer is accepted; the first reports these lost frames, the others none
 unfoldable pub AllAccepted : {v : Voice} {form : Form} → Session → Sent v form → ℕ → List ℕ → Type 0
 AllAccepted s g before [] = Unit {0}
-AllAccepted s g before (n ∷ ns) = ((offer_one s g n).answer ≡ Accepted before) × AllAccepted (offer_one s g n).session g 0 ns
+AllAccepted s g before (n ∷ ns) = ((offer_one s g n).answer ≡ Ok before) × AllAccepted (offer_one s g n).session g 0 ns
 
 -- "ready for a group if it is open for its source in the form the group was written in, holds none, and these rules would begin it"
 pub record Ready (v : Voice) (form : Form) (s : Session) (source : ℕ) (g : GroupNumbers) : Type 0 where
@@ -82,7 +80,7 @@ pub record Ready (v : Voice) (form : Form) (s : Session) (source : ℕ) (g : Gro
   pub in_form : s.form ≡ form
   pub vacant : is_nothing v.shape s.group ≡ true
   pub reported : ℕ
-  pub would_begin : decided (group_before v.shape s) g ≡ Begins reported
+  pub would_begin : decided (group_before v.shape s) g ≡ Ok (Begins reported)
 
 -- a session that was just opened is ready for every group of its source
 unfoldable pub FreshIsReady : Type 0
@@ -111,10 +109,10 @@ knowledge g ns n = cond (among n ns) (sent_packet g n) unheard
 -- a holding with the group's numbers
 pub record OfGroup {v : Voice} (h : Holding) (g : SentGroup v) : Type 0 where
   pub of_source : h.source ≡ g.source
-  pub base : h.sequence ≡ g.sequence
-  pub time : h.timestamp ≡ g.timestamp
-  pub same_length : h.l ≡ g.l
-  pub same_bundle : h.b ≡ g.b
+  pub base : h.numbers.sequence ≡ g.sequence
+  pub time : h.numbers.timestamp ≡ g.timestamp
+  pub same_length : h.numbers.l ≡ g.l
+  pub same_bundle : h.numbers.b ≡ g.b
 
 -- a holding of the group that names exactly these packets
 pub record Part {v : Voice} (h : Holding) (g : SentGroup v) (ns : List ℕ) : Type 0 where

@@ -1,15 +1,15 @@
 -- Demand 2 (document 01, "Writing packets"): writing and then reading gives back the frames, reading and then writing the octets.
 -- Of entries of any kind; where a claim asks something of the kind, it is a test that is computed, and that of every vocoder passes it.
 use Rattle.std.specs.Prelude.{ℕ, zero, suc, ◌+◌, ◌*◌, ◌≤◌, ◌<◌, ◌≡◌, List, [], ◌∷◌, Bool, true, false, cond, ◌&&◌, T, eqb, ltb, length}
+use Rattle.std.specs.Prelude.{Option, Some, None}
 use Rattle.std.specs.Prelude.{drop, get_or}
 use Rattle.frame.specs.declared.Vocoder.{Vocoder}
+use Rattle.frame.specs.declared.Row.{Row}
 use Rattle.frame.specs.FrameTable.{FrameTable, Frame, row_with, sendable, single, Every}
 use Rattle.frame.specs.Entry.{d_of}
 use Rattle.answers.specs.Outputs.{octets}
 use Rattle.form.specs.Agreed.{in_range}
 use Rattle.form.specs.declared.Limits.{Limits}
-use Rattle.frame.specs.declared.Lookup.{Lookup}
-use Rattle.frame.specs.declared.Lookup.TheVariants.{Found, Missing}
 use Rattle.form.specs.declared.Form.TheVariants.{HeaderFree, Interleaved}
 use Rattle.payload.specs.Payload.{packet, read_as}
 use Rattle.entries.specs.Kind.{Kind, kind_of, every_type, keeps_types, lists_erasure}
@@ -92,9 +92,9 @@ PacketWriteAfterRead =
     (fs : List Frame) → GroupOf kind.table l n gs fs → packet_made kind (Interleaved m) l n (length gs) d (entries_of fs) ≡ octets p
 
 -- a type that may be sent and has a body is "known by the length"
-abbrev pub kind_is : Lookup → ℕ → Bool
-kind_is Missing k = false
-kind_is (Found r) k = eqb r.kind k
+abbrev pub kind_is : Option Row → ℕ → Bool
+kind_is None k = false
+kind_is (Some r) k = eqb r.kind k
 
 -- every type of the table that has a body and may be sent is told by its length
 abbrev pub tells : FrameTable → FrameTable → Bool

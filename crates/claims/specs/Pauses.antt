@@ -1,6 +1,6 @@
 -- Document 02, (ii), "Pauses are counted wrongly": what is lost before a group goes by the clock, and the recording of a talk with silences
 -- is as long as the talk.
-use Rattle.std.specs.Prelude.{ℕ, ◌+◌, ◌-◌, ◌*◌, ◌/◌, ◌%◌, ◌≤◌, ◌<◌, ◌≡◌, List, [], ◌∷◌, ◌++◌, length, replicate}
+use Rattle.std.specs.Prelude.{ℕ, ◌+◌, ◌-◌, ◌*◌, ◌/◌, ◌%◌, ◌≤◌, ◌<◌, ◌≡◌, List, [], ◌∷◌, ◌++◌, length, replicate, Ok}
 use Rattle.frame.specs.FrameTable.{Frame}
 use Rattle.frame.specs.Shape.{Voice, voice_with}
 use Rattle.frame.specs.Places.{up_to}
@@ -25,10 +25,11 @@ pub record ClockDecides : Type 0 where
   pub alone : (poured new other : GroupNumbers) → gap poured new < 32768 → gap poured other < 32768 → new.timestamp ≡ other.timestamp →
       after_poured poured new ≡ after_poured poured other
   -- a gap in the sequence numbers, and none in time: no frame is lost
-  pub gap_without_pause : (poured new : GroupNumbers) → gap poured new < 32768 → pause poured new ≡ 0 → after_poured poured new ≡ Begins 0
+  pub gap_without_pause : (poured new : GroupNumbers) → gap poured new < 32768 → pause poured new ≡ 0 →
+      after_poured poured new ≡ Ok (Begins 0)
   -- "A pause uses no sequence numbers": its frames are counted as lost
   pub pause_without_gap : (poured new : GroupNumbers) → gap poured new ≡ 0 → (k : ℕ) → k ≤ 3000 → pause poured new ≡ 160 * k →
-      after_poured poured new ≡ Begins k
+      after_poured poured new ≡ Ok (Begins k)
 
 -- ---- a talk
 

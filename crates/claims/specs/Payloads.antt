@@ -1,12 +1,11 @@
 -- Document 01, "Payloads": what holds of every payload, over any frame table.
-use Rattle.std.specs.Prelude.{ℕ, ◌+◌, ◌*◌, ◌<◌, ◌≡◌, List, [], ◌∷◌}
+use Rattle.std.specs.Prelude.{ℕ, ◌+◌, ◌*◌, ◌<◌, ◌≡◌, List, [], ◌∷◌, Err}
 use Rattle.frame.specs.FrameTable.{FrameTable}
 use Rattle.frame.specs.Places.{located_of, body_of}
 use Rattle.form.specs.declared.Limits.{Limits}
 use Rattle.form.specs.declared.Form.{Form}
 use Rattle.form.specs.declared.Form.TheVariants.{Interleaved}
 use Rattle.answers.specs.declared.Refusal.{Refusal}
-use Rattle.frame.specs.declared.Located.TheVariants as located
 use Rattle.payload.specs.Payload.{read_as}
 use Rattle.payload.specs.Shown.{given_as}
 
@@ -20,4 +19,4 @@ RRIgnored =
 unfoldable pub RefusalsPartEmpty : Type 0
 RefusalsPartEmpty =
     (v : FrameTable) (f : Form) (p : List ℕ) (k : ℕ) (r : Refusal) →
-    located_of (given_as v f p) k ≡ located.Refused r → body_of (given_as v f p) k ≡ []
+    located_of (given_as v f p) k ≡ Err r → body_of (given_as v f p) k ≡ []

@@ -1,8 +1,6 @@
 -- Document 02, (i), "Say where the fault is": what the place of a refusal says of the octets, over any frame table and kind of recording.
-use Rattle.std.specs.Prelude.{ℕ, ◌+◌, ◌≤◌, ◌<◌, ◌≡◌, ◌⊎◌, true, false, List, ◌++◌, length, take, get_or}
+use Rattle.std.specs.Prelude.{ℕ, ◌+◌, ◌≤◌, ◌<◌, ◌≡◌, ◌⊎◌, true, false, List, ◌++◌, length, take, get_or, Option, Some, None}
 use Rattle.answers.specs.Answers.{number_of, place_of}
-use Rattle.answers.specs.declared.Place.{Place}
-use Rattle.answers.specs.declared.Place.TheVariants.{Octet, Nowhere}
 use Rattle.answers.specs.declared.Refusal.{Refusal}
 use Rattle.answers.specs.declared.Refusal.TheVariants.{TableCut, ReservedType, TooManyFrames, BodiesCut, OctetsLeft}
 use Rattle.frame.specs.FrameTable.{FrameTable, Frame, known, size}
@@ -24,9 +22,9 @@ abbrev pub IsRead : FrameTable → Form → List ℕ → Type 0
 IsRead v f p = (l n d : ℕ) × (fs : List Frame) × (read_as v f p ≡ packet l n d fs)
 
 -- a place, if there is one, that is not further on than another
-abbrev pub NotPast : ℕ → Place → Type 0
-NotPast at (Octet i) = i ≤ at
-NotPast at Nowhere = Unit {0}
+abbrev pub NotPast : ℕ → Option ℕ → Type 0
+NotPast at (Some i) = i ≤ at
+NotPast at None = Unit {0}
 
 -- octets that are refused, and not further on than at a place
 pub record NotFurther (v : FrameTable) (f : Form) (at : ℕ) (p : List ℕ) : Type 0 where
@@ -37,9 +35,9 @@ pub record NotFurther (v : FrameTable) (f : Form) (at : ℕ) (p : List ℕ) : Ty
 -- a refused payload's place is at most its length, and lies inside it for 5, 6 and 8
 pub record PlaceInside : Type 0 where
   pub at_most : (v : FrameTable) (f : Form) (p : List ℕ) (r : Refusal) (at : ℕ) →
-      read_as v f p ≡ refused_payload r → place_of r ≡ Octet at → at ≤ length p
+      read_as v f p ≡ refused_payload r → place_of r ≡ Some at → at ≤ length p
   pub inside : (v : FrameTable) (f : Form) (p : List ℕ) (r : Refusal) (at : ℕ) →
-      read_as v f p ≡ refused_payload r → place_of r ≡ Octet at → number_of r ≡ 5 ⊎ number_of r ≡ 6 ⊎ number_of r ≡ 8 → at < length p
+      read_as v f p ≡ refused_payload r → place_of r ≡ Some at → number_of r ≡ 5 ⊎ number_of r ≡ 6 ⊎ number_of r ≡ 8 → at < length p
 
 -- "for 4 the payload's length": no shorter payload is read, nor is one read further
 unfoldable pub TableIsCut : Type 0
@@ -108,11 +106,11 @@ pub record EntryAtFault (kind : Kind) (p : List ℕ) (r : Refusal) (at : ℕ) : 
 -- "Recordings do the same for 5 and 19, with the place of the entry octet": behind the opening; what stands before it is a recording
 unfoldable pub RecordingFaults : Type 0
 RecordingFaults =
-    (kind : Kind) (p : List ℕ) (r : Refusal) (at : ℕ) → recording_read kind p ≡ refused_entries r → place_of r ≡ Octet at →
+    (kind : Kind) (p : List ℕ) (r : Refusal) (at : ℕ) → recording_read kind p ≡ refused_entries r → place_of r ≡ Some at →
     EntryAtFault kind p r at × (length kind.opening ≤ at) × ((fs : List Frame) × (recording_read kind (take at p) ≡ frames fs))
 
 -- "writers .. pass the place on": counted in the entries; what stands before it are entries that the writer takes
 unfoldable pub EntriesFaults : Type 0
 EntriesFaults =
-    (kind : Kind) (rule : Rule) (es : List ℕ) (r : Refusal) (at : ℕ) → entries_in kind rule es ≡ refused_entries r → place_of r ≡ Octet at →
+    (kind : Kind) (rule : Rule) (es : List ℕ) (r : Refusal) (at : ℕ) → entries_in kind rule es ≡ refused_entries r → place_of r ≡ Some at →
     EntryAtFault kind es r at × ((fs : List Frame) × (entries_in kind rule (take at es) ≡ frames fs))

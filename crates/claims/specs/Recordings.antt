@@ -1,6 +1,6 @@
 -- Document 01, "Recordings": what holds of every recording, of any kind; what is asked of a kind is a test that is computed.
 -- The kind of every vocoder passes it (`KindsPass`).
-use Rattle.std.specs.Prelude.{ℕ, zero, suc, ◌≡◌, List, [], ◌∷◌, ◌++◌, T, length, drop}
+use Rattle.std.specs.Prelude.{ℕ, zero, suc, ◌≡◌, List, [], ◌∷◌, ◌++◌, T, length, drop, Err}
 use Rattle.frame.specs.FrameTable.{Frame, size}
 use Rattle.answers.specs.Outputs.{octets}
 use Rattle.entries.specs.Kind.{Kind, keeps_types}
@@ -8,7 +8,6 @@ use Rattle.entries.specs.Entries.{frames, entries_in, entries_of, cleared}
 use Rattle.recording.specs.Recording.{recording_read, recording_made}
 use Rattle.recording.specs.Shown.{given_in}
 use Rattle.frame.specs.Places.{located_of, body_of}
-use Rattle.frame.specs.declared.Located.TheVariants as located
 use Rattle.answers.specs.declared.Refusal.{Refusal}
 use Rattle.entries.specs.declared.Rule.TheVariants.{Any}
 
@@ -44,4 +43,4 @@ OpeningAlone = (kind : Kind) → recording_read kind kind.opening ≡ frames []
 unfoldable pub RecordingRefusalsPartEmpty : Type 0
 RecordingRefusalsPartEmpty =
     (kind : Kind) (p : List ℕ) (k : ℕ) (r : Refusal) →
-    located_of (given_in kind p) k ≡ located.Refused r → body_of (given_in kind p) k ≡ []
+    located_of (given_in kind p) k ≡ Err r → body_of (given_in kind p) k ≡ []

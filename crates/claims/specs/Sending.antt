@@ -1,6 +1,7 @@
 -- Demand 3: our writers send groups that it speaks of.
-use Rattle.std.specs.Prelude.{ℕ, ◌≤◌, ◌<◌, ◌≡◌, List, Bool, false, not, T, length}
+use Rattle.std.specs.Prelude.{ℕ, ◌≤◌, ◌<◌, ◌≡◌, List, Bool, false, not, T, length, Option, Some, None}
 use Rattle.frame.specs.declared.Vocoder.{Vocoder}
+use Rattle.frame.specs.declared.Row.{Row}
 use Rattle.frame.specs.FrameTable.{FrameTable, Frame, rows_of, row_of, erasure}
 use Rattle.frame.specs.Shape.{Voice, voice_with}
 use Rattle.frame.specs.Places.{frame_at}
@@ -10,8 +11,6 @@ use Rattle.numbers.specs.declared.GroupNumbers.{GroupNumbers}
 use Rattle.packet.specs.Packet.{group_in}
 use Rattle.packet.specs.Writing.{packet_made, header_free_made}
 use Rattle.form.specs.declared.Limits.{Limits}
-use Rattle.frame.specs.declared.Lookup.{Lookup}
-use Rattle.frame.specs.declared.Lookup.TheVariants.{Found, Missing}
 use Rattle.form.specs.declared.Form.TheVariants.{HeaderFree, Interleaved}
 use Rattle.answers.specs.Outputs.{octets}
 use Rattle.claims.specs.Packets.{narrow, tells, Admits}
@@ -52,9 +51,9 @@ HeaderFreeWriterSends =
     (record { sequence = sequence; timestamp = timestamp; l = 0; b = 1 }) (group_in kind es) (λ n. w)
 
 -- an erasure is not to be sent
-abbrev pub sent_of : Lookup → Bool
-sent_of (Found r) = r.sent
-sent_of Missing = false
+abbrev pub sent_of : Option Row → Bool
+sent_of (Some r) = r.sent
+sent_of None = false
 
 -- the test of a table that its erasures are never sent
 abbrev pub never_sent : FrameTable → Bool

@@ -1,5 +1,5 @@
 -- Demand 1 and document 01, "Session": what holds of every session. Over any shape and frame table.
-use Rattle.std.specs.Prelude.{ℕ, ◌+◌, ◌/◌, ◌≡◌, List, [], ◌∷◌, true, false, cond, ◌&&◌, length}
+use Rattle.std.specs.Prelude.{ℕ, ◌+◌, ◌≡◌, List, [], ◌∷◌, true, false, cond, length, Ok, Err}
 use denote.Triple.Clauses.{AtExit}
 use contract.Lifetimes.{Lfts}
 use borrow.Fn.Kinds.{Dens, res_t, ended_of}
@@ -13,22 +13,20 @@ use Rattle.answers.specs.declared.Refusal.{Refusal}
 use Rattle.answers.specs.declared.Refusal.TheVariants.{AnotherSource, NotApplicable}
 use Rattle.payload.specs.Payload.{packet, read_as}
 use Rattle.numbers.specs.Bases.{minus, base_sequence, base_timestamp}
-use Rattle.numbers.specs.Place.{pause}
 use Rattle.numbers.specs.declared.GroupNumbers.{GroupNumbers}
 use Rattle.holding.specs.Group.{is_nothing, held_at, bundle_at}
 use Rattle.bundle.specs.LaidOut.{laid}
 use Rattle.pouring.specs.Pouring.{in_time, poured}
 use Rattle.holding.specs.declared.Holding.{Holding}
-use Rattle.session.specs.Session.{never_opened, fresh, form_right, opened_for, is_open, refuse, accept, last_numbers, begins, arrival}
+use Rattle.session.specs.Session.{never_opened, fresh, form_right, opened_for, is_open, refuse, accept, lost_after, begins, arrival}
 use Rattle.session.specs.Session.{offered}
 use Rattle.session.specs.declared.Session.{Session}
-use Rattle.session.specs.declared.Taken.TheVariants.{Accepted, Refused}
 
 -- "Every refused offer leaves the session as it was."
 unfoldable pub RefusedOfferChangesNothing : Type 0
 RefusedOfferChangesNothing =
     (v : Voice) (s : Session) (source sequence timestamp : ℕ) (p : List ℕ) (r : Refusal) →
-    (offered v s source sequence timestamp p).answer ≡ Refused r → (offered v s source sequence timestamp p).session ≡ s
+    (offered v s source sequence timestamp p).answer ≡ Err r → (offered v s source sequence timestamp p).session ≡ s
 
 -- a packet from another source is answered 10, whatever its payload holds
 unfoldable pub AnotherSourceIs10 : Type 0
@@ -51,8 +49,8 @@ OpeningForgets =
 -- an ending forgets: whatever the session was, it is one never opened (over the contract of `session::end` itself)
 unfoldable pub EndingForgets : Type 0
 EndingForgets =
-    (κs : Lfts 0) (a : Dens κs session-end-kinds.ps) (x : (res_t session-end-kinds.r κs).Denot)
-    (s : AtExit (ended_of 0 session-end-kinds.ps session-end-kinds.r) κs) → session-end.Post κs a x s → x ≡ never_opened holding_shape
+    (κs : Lfts 1) (a : Dens κs session-end-kinds.ps) (x : (res_t session-end-kinds.r κs).Denot)
+    (s : AtExit (ended_of 1 session-end-kinds.ps session-end-kinds.r) κs) → session-end.Post κs a x s → s.0.now ≡ never_opened holding_shape
 
 -- a session never opened, or ended, takes nothing: 21 whatever is offered
 unfoldable pub EndedTakesNothing : Type 0
@@ -72,10 +70,10 @@ FirstPacketBeginsAlone =
 -- a packet that the session holds already: of the held group, its numbers the same, its frames those that are held
 pub record Repeat (v : Voice) (s : Session) (sequence timestamp l n : ℕ) (fs : List Frame) : Type 0 where
   pub some : is_nothing v.shape s.group ≡ false
-  pub base : minus 16 (base_sequence sequence n) s.group.sequence ≡ 0
-  pub time : base_timestamp timestamp n ≡ s.group.timestamp
-  pub same_length : l ≡ s.group.l
-  pub same_bundle : length fs ≡ s.group.b
+  pub base : minus 16 (base_sequence sequence n) s.group.numbers.sequence ≡ 0
+  pub time : base_timestamp timestamp n ≡ s.group.numbers.timestamp
+  pub same_length : l ≡ s.group.numbers.l
+  pub same_bundle : length fs ≡ s.group.numbers.b
   pub held : held_at s.group n ≡ true
   pub frames : bundle_at v.shape s.group n ≡ laid v.shape fs
 
@@ -89,13 +87,13 @@ RepeatChangesNothing =
 -- the lost frames that an accepted packet of these numbers reports, if it begins a group after a poured one: (02, ii) "(new base
 -- timestamp - (old base timestamp + 160 x (L + 1) x B)) modulo 4,294,967,296, divided by 160"
 abbrev pub lost_before : Shape → Session → GroupNumbers → ℕ
-lost_before shape s new = cond (is_nothing shape s.group && s.poured) (pause (last_numbers s) new / 160) 0
+lost_before shape s new = cond (is_nothing shape s.group) (lost_after s.last new) 0
 
 -- "the answer reports .. lost frames before it": no other number is ever reported
 unfoldable pub LostFramesByFormula : Type 0
 LostFramesByFormula =
     (v : Voice) (s : Session) (source sequence timestamp : ℕ) (p : List ℕ) (l n d : ℕ) (fs : List Frame) →
-    read_as v.table s.form p ≡ packet l n d fs → (lost : ℕ) → (offered v s source sequence timestamp p).answer ≡ Accepted lost →
+    read_as v.table s.form p ≡ packet l n d fs → (lost : ℕ) → (offered v s source sequence timestamp p).answer ≡ Ok lost →
     lost ≡ lost_before v.shape s (arrival v.shape sequence timestamp l n fs).numbers
 
 -- the octets of the bodies of frames

@@ -1,4 +1,5 @@
 -- Entries that were read: what stands where. Assumes nothing.
+use Rattle.std.proofs.Common.{Option, Some, None}
 use Prim.Native.Nat.{ℕ, zero, suc, ◌+◌, ◌-◌, ◌≤◌, ◌<◌}
 use mathlib.Core.Path.{◌≡◌, refl, sym, ap, ◌∙◌}
 use mathlib.Core.List.{List, [], ◌∷◌}
@@ -13,8 +14,6 @@ use Rattle.octets.proofs.Logic.{apart}
 use Rattle.frame.specs.FrameTable.{Frame, row_of, known, size}
 use Rattle.frame.specs.Places.{taken, frame_at, no_frame}
 use Rattle.frame.specs.declared.Row.{Row}
-use Rattle.frame.specs.declared.Lookup.{Lookup}
-use Rattle.frame.specs.declared.Lookup.TheVariants.{Found, Missing}
 use Rattle.frame.proofs.FrameTableLaws.{found-known, found-size}
 use Rattle.frame.proofs.PlacesLaws.{Laid}
 use Rattle.entries.specs.Kind.{Kind}
@@ -35,7 +34,7 @@ pub record Entry (kind : Kind) (ok : Frame → Bool) (p : List ℕ) (at : ℕ) (
 pub entry : (kind : Kind) (ok : Frame → Bool) (p : List ℕ) (at : ℕ) (f : Frame) (fs : List Frame) → entries_at kind ok p at ≡ frames (f ∷ fs) → Entry kind ok p at f fs
 entry kind ok p at f fs e = by_place (ltb at (length p)) refl
   where
-    by-rule : at < length p → (r : Row) → row_of kind.table (kind.type_of (get_or p at 0)) ≡ Found r → r.octets ≤ length p - (at + 1) →
+    by-rule : at < length p → (r : Row) → row_of kind.table (kind.type_of (get_or p at 0)) ≡ Some r → r.octets ≤ length p - (at + 1) →
         (b : Bool) → ok (entry_at kind p at r.octets) ≡ b → Entry kind ok p at f fs
     by-rule h r k s false g = let q = not-allowed kind ok p at h r k s g in apart (cc)
     by-rule h r k s true g =
@@ -56,13 +55,13 @@ entry kind ok p at f fs e = by_place (ltb at (length p)) refl
           rest = rw z behind;
         }
 
-    by_size : at < length p → (r : Row) → row_of kind.table (kind.type_of (get_or p at 0)) ≡ Found r → (b : Bool) → ltb (length p - (at + 1)) r.octets ≡ b → Entry kind ok p at f fs
+    by_size : at < length p → (r : Row) → row_of kind.table (kind.type_of (get_or p at 0)) ≡ Some r → (b : Bool) → ltb (length p - (at + 1)) r.octets ≡ b → Entry kind ok p at f fs
     by_size h r k true q = let x = body-cut kind ok p at h r k (ltb-true _ _ q) in apart (cc)
     by_size h r k false q = by-rule h r k (ltb-false _ _ q) (ok (entry_at kind p at r.octets)) refl
 
-    by-type : at < length p → (l : Lookup) → row_of kind.table (kind.type_of (get_or p at 0)) ≡ l → Entry kind ok p at f fs
-    by-type h (Found r) k = by_size h r k (ltb (length p - (at + 1)) r.octets) refl
-    by-type h Missing k = let x = not_known kind ok p at h k in apart (cc)
+    by-type : at < length p → (l : Option Row) → row_of kind.table (kind.type_of (get_or p at 0)) ≡ l → Entry kind ok p at f fs
+    by-type h (Some r) k = by_size h r k (ltb (length p - (at + 1)) r.octets) refl
+    by-type h None k = let x = not_known kind ok p at h k in apart (cc)
 
     by_place : (b : Bool) → ltb at (length p) ≡ b → Entry kind ok p at f fs
     by_place true q = by-type (ltb-true _ _ q) (row_of kind.table (kind.type_of (get_or p at 0))) refl

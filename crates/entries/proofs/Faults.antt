@@ -1,4 +1,5 @@
 -- Where entries that are refused are at fault, and what stands before that place. Assumes nothing.
+use Rattle.std.proofs.Common.{Some}
 use Prim.Native.Nat.{ℕ, zero, suc, ◌+◌, ◌≤◌, ◌<◌}
 use mathlib.Core.Path.{◌≡◌, refl, sym, ap, subst, ◌∙◌}
 use mathlib.Core.Logic.{◌⊎◌, inl, inr}
@@ -13,7 +14,6 @@ use Rattle.octets.proofs.Logic.{apart}
 use Rattle.octets.proofs.OctetsLaws.{drop-take, part-is}
 use Rattle.frame.specs.FrameTable.{Frame, known, size}
 use Rattle.answers.specs.Answers.{number_of, place_of}
-use Rattle.answers.specs.declared.Place.TheVariants.{Octet}
 use Rattle.answers.specs.declared.Refusal.{Refusal}
 use Rattle.answers.specs.declared.Refusal.TheVariants.{ReservedType, BodyCut}
 use Rattle.entries.specs.Kind.{Kind}
@@ -39,7 +39,7 @@ record Fault (kind : Kind) (ok : Frame → Bool) (at skip : ℕ) (es : List ℕ)
 
 abbrev Ends : Kind → (Frame → Bool) → ℕ → ℕ → List ℕ → EntriesRead → Type 0
 Ends kind ok at skip es (frames fs) = Unit {0}
-Ends kind ok at skip es (refused_entries r) = (i : ℕ) → place_of r ≡ Octet i → Fault kind ok at skip es r i
+Ends kind ok at skip es (refused_entries r) = (i : ℕ) → place_of r ≡ Some i → Fault kind ok at skip es r i
 
 module _ (kind : Kind) (ok : Frame → Bool) where
   -- behind one octet more
@@ -117,7 +117,7 @@ pub record FaultAt (kind : Kind) (ok : Frame → Bool) (p : List ℕ) (head : �
   pub fs : List Frame
   pub before : entries_at kind ok (take at p) head ≡ frames fs
 
-pub fault-at : (kind : Kind) (ok : Frame → Bool) (p : List ℕ) (head : ℕ) (r : Refusal) (at : ℕ) → entries_at kind ok p head ≡ refused_entries r → place_of r ≡ Octet at →
+pub fault-at : (kind : Kind) (ok : Frame → Bool) (p : List ℕ) (head : ℕ) (r : Refusal) (at : ℕ) → entries_at kind ok p head ≡ refused_entries r → place_of r ≡ Some at →
     FaultAt kind ok p head r at
 fault-at kind ok p head r at e q =
     let f = subst (Ends kind ok head 0 (drop head p)) e (entries-ends kind ok head 0 (drop head p)) at q in

@@ -1,4 +1,5 @@
 -- The walk over entries, an entry at a time. Assumes nothing.
+use Rattle.std.proofs.Common.{Some, None, Ok}
 use Prim.Native.Nat.{ℕ, zero, suc, ◌+◌, ◌-◌, ◌≤◌, ◌<◌}
 use mathlib.Core.Path.{◌≡◌, refl, sym, ap, ◌∙◌}
 use mathlib.Core.List.{List, [], ◌∷◌}
@@ -10,15 +11,12 @@ use lib.ListN.{length, take, drop, get_or, drop_of_length-le, length-drop}
 use lib.Seq.{drop-cons, drop-drop}
 use borrow.Author.Tests.{lt-ltb, le-ltb}
 use Rattle.octets.proofs.Logic.{apart}
-use Rattle.frame.specs.FrameTable.{FrameTable, Frame, row_of, sendable}
+use Rattle.frame.specs.FrameTable.{Frame, row_of}
 use Rattle.frame.specs.declared.Row.{Row}
-use Rattle.frame.specs.declared.Lookup.TheVariants.{Found, Missing}
 use Rattle.answers.specs.declared.Refusal.TheVariants.{ReservedType, NotSendable, BodyCut}
 use Rattle.entries.specs.Kind.{Kind}
-use Rattle.entries.specs.Entries.{EntriesRead, frames, refused_entries, put, entries, allowed}
+use Rattle.entries.specs.Entries.{EntriesRead, frames, refused_entries, put, entries}
 use Rattle.entries.specs.Counting.{counted_from, counted_of}
-use Rattle.entries.specs.declared.Rule.TheVariants.{HeaderFree}
-use Rattle.entries.specs.declared.Counted.TheVariants as counted
 
 pub from_start : (w : EntriesRead) → counted_from 0 w ≡ counted_of w
 unfolding counted_from counted_of
@@ -27,7 +25,7 @@ from_start (refused_entries fault) = refl
 
 pub from-put : (n : ℕ) (f : Frame) (w : EntriesRead) → counted_from n (put f w) ≡ counted_from (n + 1) w
 unfolding counted_from
-from-put n f (frames fs) = ap counted.Frames (omega arith)
+from-put n f (frames fs) = ap Ok (omega arith)
 from-put n f (refused_entries fault) = refl
 
 -- a frame put before others
@@ -61,11 +59,11 @@ module _ (kind : Kind) (ok : Frame → Bool) (p : List ℕ) (at : ℕ) where
   ended h = rw (drop_of_length-le p h)
 
   module _ (h : at < length p) where
-    pub not_known : row_of kind.table (kind.type_of (get_or p at 0)) ≡ Missing → entries_at kind ok p at ≡ refused_entries (ReservedType at)
+    pub not_known : row_of kind.table (kind.type_of (get_or p at 0)) ≡ None → entries_at kind ok p at ≡ refused_entries (ReservedType at)
     unfolding entries
     not_known k = simp (drop-cons p at 0 h, k)
 
-    module _ (r : Row) (k : row_of kind.table (kind.type_of (get_or p at 0)) ≡ Found r) where
+    module _ (r : Row) (k : row_of kind.table (kind.type_of (get_or p at 0)) ≡ Some r) where
       pub body-cut : length p - (at + 1) < r.octets → entries_at kind ok p at ≡ refused_entries (BodyCut at)
       unfolding entries
       body-cut s =
@@ -93,12 +91,3 @@ module _ (kind : Kind) (ok : Frame → Bool) (p : List ℕ) (at : ℕ) where
             skips kind ok (at + 1) r.octets (drop (suc at) p)
             ∙ ap (entries kind ok (at + 1 + r.octets) 0) (drop-drop r.octets (suc at) p ∙ ap (λ (j : ℕ). drop (j + r.octets) p) (sym (add-one at))) in
             rw body_is (simp (drop-cons p at 0 h, k, le-ltb _ _ behind, g') (ap (put _) i))
-
--- the rule of the header-free writer
-pub no_body : (v : FrameTable) (f : Frame) → length f.body ≡ 0 → false ≡ allowed v HeaderFree f
-unfolding allowed
-no_body v f h = let z : length f.body ≤ 0 = omega arith in simp (le-ltb _ _ z)
-
-pub a_body : (v : FrameTable) (f : Frame) → (length f.body ≡ 0 → ⊥) → sendable v f.type f.body ≡ allowed v HeaderFree f
-unfolding allowed
-a_body v f h = let z : 0 < length f.body = omega arith in simp (lt-ltb _ _ z)

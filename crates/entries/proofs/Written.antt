@@ -1,4 +1,5 @@
 -- Frames as entries are read as those frames. Assumes nothing.
+use Rattle.std.proofs.Common.{Some}
 use Prim.Native.Nat.{ℕ, ◌+◌, ◌≤◌}
 use mathlib.Core.Path.{◌≡◌, refl, sym, ap, subst, ◌∙◌}
 use mathlib.Core.List.{List, [], ◌∷◌, ◌++◌}
@@ -10,7 +11,6 @@ use lib.Seq.{take_at, drop_at}
 use borrow.Author.Tests.{eqb-true, le-ltb}
 use Rattle.octets.proofs.Logic.{apart, both_hold}
 use Rattle.frame.specs.FrameTable.{FrameTable, Frame, row_of, is_there, known, size, Listed, AllListed, Every}
-use Rattle.frame.specs.declared.Lookup.TheVariants.{Found}
 use Rattle.entries.specs.Kind.{Kind, every_type, keeps_types}
 use Rattle.entries.specs.Entries.{frames, entries, entries_of}
 use Rattle.entries.specs.Entries as entry
@@ -24,7 +24,7 @@ unfolding row_of
 type-passes test [] t h e = apart (cc)
 type-passes test (x ∷ v) t h e = go (eqb t x.kind) refl e (type-passes test v t (both_hold (test x.kind) (every_type test v) h).1)
   where
-    go : (b : Bool) → eqb t x.kind ≡ b → is_there (cond b (Found x) (row_of v t)) ≡ true → (known v t ≡ true → T (test t)) → T (test t)
+    go : (b : Bool) → eqb t x.kind ≡ b → is_there (cond b (Some x) (row_of v t)) ≡ true → (known v t ≡ true → T (test t)) → T (test t)
     go true q y i = subst (λ (k : ℕ). T (test k)) (sym (eqb-true t x.kind q)) (both_hold (test x.kind) (every_type test v) h).0
     go false q y i = i y
 

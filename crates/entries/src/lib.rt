@@ -10,17 +10,10 @@ ghost use Rattle.entries.specs.Kind.{kind_of};
 ghost use Rattle.entries.specs.Entries.{allowed, entries_from, entries_in, frames_in, cleared};
 
 use answers::Refusal;
-use frame::{Lookup, Vocoder};
-
-// How many frames there are, or the refusal.
-#[derive(Clone, Copy)]
-pub enum Counted {
-    Frames(usize),
-    Refused(Refusal),
-}
+use frame::Vocoder;
 
 // Which frames entries may hold: any; those that may be sent; those that may be sent without a header.
-#[derive(Clone, Copy)]
+#[derive(Clone, Copy, Debug, PartialEq, Eq)]
 pub enum Rule {
     Any,
     Sendable,
@@ -28,53 +21,42 @@ pub enum Rule {
 }
 
 // Whether a rule allows a frame: any; those that may be sent; those of them that have a body.
+#[tactic(auto, unfolding(crate::specs::Entries::allowed))]
 fn allows(vocoder: Vocoder, rule: Rule, kind: u8, body: &[u8]) -> bool
     ensures { result ≡ allowed (rows_of vocoder) rule (record { type = kind; body = body.now }) }
 {
     match rule {
         Rule::Any => true,
         Rule::Sendable => frame::is_sendable(vocoder, kind, body),
-        Rule::HeaderFree => {
-            if body.len() == 0 {
-                return false;
-            }
-            frame::is_sendable(vocoder, kind, body)
-        }
+        Rule::HeaderFree => 0 < body.len() && frame::is_sendable(vocoder, kind, body),
     }
 }
 
 // The walk over the entries that stand from an octet on, which ends at the first fault it meets. A place is counted in all the octets.
-pub fn count(vocoder: Vocoder, rule: Rule, entries: &[u8], from: usize) -> Counted
+pub fn count(vocoder: Vocoder, rule: Rule, entries: &[u8], from: usize) -> Result<usize, Refusal>
     ensures { result ≡ counted_of (entries_from (kind_of vocoder) rule from (drop from entries.now)) }
 {
-    let mut n: usize = 0;
+    let mut n = 0usize;
     let mut at = from;
+    // The customer's paper names this form for this place, so it is no `for`.
     'entries: loop {
         if entries.len() <= at {
-            break 'entries Counted::Frames(n);
+            break 'entries Ok(n);
         }
         let kind = entries[at] % 64;
-        let found = frame::row_of(vocoder, kind);
-        match found {
-            Lookup::Missing => {
-                break 'entries Counted::Refused(Refusal::ReservedType(at));
-            }
-            Lookup::Found(row) => {
-                let start = at + 1;
-                let octets = row.octets;
-                if entries.len() - start < octets {
-                    break 'entries Counted::Refused(Refusal::BodyCut(at));
-                }
-                let next = start + octets;
-                let good = allows(vocoder, rule, kind, &entries[start..next]);
-                if good {
-                    n = n + 1;
-                    at = next;
-                } else {
-                    break 'entries Counted::Refused(Refusal::NotSendable);
-                }
-            }
+        let Some(row) = frame::row_of(vocoder, kind) else {
+            break 'entries Err(Refusal::ReservedType(at));
+        };
+        let start = at + 1;
+        if entries.len() - start < row.octets {
+            break 'entries Err(Refusal::BodyCut(at));
         }
+        let next = start + row.octets;
+        if !allows(vocoder, rule, kind, &entries[start..next]) {
+            break 'entries Err(Refusal::NotSendable);
+        }
+        n += 1;
+        at = next;
     }
 }
 
@@ -84,11 +66,9 @@ pub fn seek(vocoder: Vocoder, entries: &[u8], k: usize) -> usize
     requires { k < length (frames_in (entries_in (kind_of vocoder) Rule.Any entries.now)) }
     ensures { result ≡ taken 1 (take k (frames_in (entries_in (kind_of vocoder) Rule.Any entries.now))) }
 {
-    let mut at: usize = 0;
-    let mut i: usize = 0;
-    while i < k {
-        at = at + 1 + frame::body_size(vocoder, entries[at] % 64);
-        i = i + 1;
+    let mut at = 0;
+    for _ in 0..k {
+        at += 1 + frame::body_size(vocoder, entries[at] % 64);
     }
     at
 }
@@ -99,19 +79,15 @@ pub fn write_cleared(vocoder: Vocoder, out: &mut [u8], at: usize, entries: &[u8]
     requires { at + length entries.now ≤ length out.old }
     ensures { out.new ≡ over out.old at (cleared (kind_of vocoder) 0 entries.now) }
 {
-    let mut i: usize = 0;
-    let mut left: usize = 0;
-    while i < entries.len() {
-        let next = i + 1;
-        let place = at + i;
+    let mut left = 0;
+    for (i, x) in entries.iter().enumerate() {
         if 0 < left {
-            out[place] = entries[i];
-            left = left - 1;
+            out[at + i] = *x;
+            left -= 1;
         } else {
-            let kind = entries[i] % 64;
-            out[place] = kind;
+            let kind = *x % 64;
+            out[at + i] = kind;
             left = frame::body_size(vocoder, kind);
         }
-        i = next;
     }
 }

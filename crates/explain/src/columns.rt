@@ -1,5 +1,7 @@
 // Words on standard output, and numbers in columns.
 
+// std's `print!` reads `errno`, on which this program would then rest besides `write`: so it writes by `io`.
+
 // The numbers of the files that a program writes.
 const STDOUT_FILENO: i32 = 1;
 
@@ -10,13 +12,13 @@ pub(crate) fn say(words: &[u8]) {
     io::write_all(STDOUT_FILENO, words);
 }
 
-// The last words. A program of this language has no status to tell by: where standard output cannot be written, a line on standard
-// error says so.
+// The last words. The status tells nothing: where standard output cannot be written, a line on standard error says so.
 pub(crate) fn say_last(words: &[u8]) {
-    let written = io::write_all(STDOUT_FILENO, words);
-    if !written {
-        let line = *b"explain: standard output cannot be written\n";
-        io::write_all(STDERR_FILENO, &line);
+    if !io::write_all(STDOUT_FILENO, words) {
+        io::write_all(
+            STDERR_FILENO,
+            b"explain: standard output cannot be written\n",
+        );
     }
 }
 
@@ -40,20 +42,16 @@ pub(crate) fn say_hex(number: u64, digits: usize) {
     io::print_hex(STDOUT_FILENO, number, digits);
 }
 
-// Spaces, where a column has more characters than are used.
+// Spaces, where a column of at most 12 has more characters than are used.
 fn say_spaces(column: usize, used: usize) {
-    let spaces = *b"            ";
-    if used < column {
-        let left = column - used;
-        if left <= 12 {
-            say(&spaces[0..left]);
-        }
+    if let Some(spaces) = b"            ".get(..column.saturating_sub(used)) {
+        say(spaces);
     }
 }
 
 // A number at the right of a column, and two spaces behind it.
 pub(crate) fn say_right(number: u64, column: usize) {
-    let mut digits = [0u8; 20];
+    let mut digits = [0; 20];
     let count = io::decimal(number, &mut digits);
     say_spaces(column, count);
     say(&digits[..count]);

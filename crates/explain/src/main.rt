@@ -8,24 +8,17 @@ mod columns;
 mod packets;
 mod totals;
 
-use capture::Fault;
 use columns::{say, say_last};
 
 // The number of the file that a program reads.
 const STDIN_FILENO: i32 = 0;
-
-// The line of document 01.
-fn say_bad() {
-    let line = *b"bad capture\n";
-    say_last(&line);
-}
 
 // A good capture: its packets, what they were answered in all, and its recording.
 fn explain(capture: &[u8]) {
     if capture.len() < 2 {
         return;
     }
-    let count = octets::two(capture, 0) as usize;
+    let count = usize::from(octets::two(capture, 0));
     if capture.len() < 2 + 12 * count {
         return;
     }
@@ -36,24 +29,16 @@ fn explain(capture: &[u8]) {
     totals::say_recording(capture);
 }
 
-// A capture is judged before it is explained.
-fn judge(capture: &[u8]) {
-    let fault = capture::judge(capture);
-    match fault {
-        Fault::None => explain(capture),
-        _ => say_bad(),
-    }
-}
-
-// Input longer than a capture is bad.
+// A capture is judged before it is explained. Input longer than a capture is bad; then the line of document 01 is all.
 fn main() {
     let mut input = io::large_buffer();
     let count = io::read_full(STDIN_FILENO, &mut input);
-    let mut more = [0u8; 1];
+    let mut more = [0];
     let left = io::read_full(STDIN_FILENO, &mut more);
-    if 0 < left {
-        say_bad();
+    let capture = &input[..count];
+    if 0 < left || capture::judge(capture).is_err() {
+        say_last(b"bad capture\n");
     } else {
-        judge(&input[..count]);
+        explain(capture);
     }
 }

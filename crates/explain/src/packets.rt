@@ -1,21 +1,19 @@
 // A line for each packet: its numbers, L, N and B, and what it was answered.
 ghost use Rattle.std.specs.Prelude.{◌+◌, ◌*◌, ◌≤◌, length};
 
-use crate::answer::{number_of, say_answer};
+use crate::answer::{say_refusal, say_taken};
 use crate::columns::{say, say_hex, say_right};
-use capture::Told;
+use capture::CaptureError;
 use form::{Form, Limits};
-use payload::Contents;
 
 // Of a payload that cannot be read: L and N, where it has an octet 0.
 fn say_head(payload: &[u8]) {
-    if payload.len() < 1 {
-        say(b"-  -   -  ");
-    } else {
-        let head = payload[0];
-        say_right((head / 8 % 8) as u64, 1);
-        say_right((head % 8) as u64, 1);
+    if let Some(head) = payload.first() {
+        say_right(u64::from(head / 8 % 8), 1);
+        say_right(u64::from(head % 8), 1);
         say(b" -  ");
+    } else {
+        say(b"-  -   -  ");
     }
 }
 
@@ -25,14 +23,12 @@ fn say_shape(payload: &[u8]) {
         max_l: 7,
         max_b: 10,
     });
-    let contents = payload::read(form, payload);
-    match contents {
-        Contents::Refused(_) => say_head(payload),
-        Contents::Packet { l, n, b, d: _ } => {
-            say_right(l as u64, 1);
-            say_right(n as u64, 1);
-            say_right(b as u64, 2);
-        }
+    if let Ok(read) = payload::read(form, payload) {
+        say_right(u64::from(read.l), 1);
+        say_right(u64::from(read.n), 1);
+        say_right(u64::from(read.b), 2);
+    } else {
+        say_head(payload);
     }
 }
 
@@ -42,10 +38,10 @@ fn say_numbers(capture: &[u8], i: usize)
 {
     let row = 2 + 12 * i;
     say_right(i as u64, 6);
-    say_hex(octets::four(capture, row) as u64, 8);
+    say_hex(u64::from(octets::four(capture, row)), 8);
     say(b"  ");
-    say_right(octets::two(capture, row + 4) as u64, 8);
-    say_right(octets::four(capture, row + 6) as u64, 10);
+    say_right(u64::from(octets::two(capture, row + 4)), 8);
+    say_right(u64::from(octets::four(capture, row + 6)), 10);
 }
 
 // The line of packet i, and the number of its answer: 0 where it was taken.
@@ -54,15 +50,19 @@ fn explain_packet(capture: &[u8], i: usize, payload: &[u8]) -> u8
 {
     say_numbers(capture, i);
     say_shape(payload);
-    let told = capture::answer(capture, i);
-    match told {
-        Told::BadCapture => 0,
-        Told::Answered(answer) => {
-            say_answer(answer, payload);
-            say(b"\n");
-            number_of(answer)
+    let number = match capture::answer(capture, i) {
+        Ok(lost) => {
+            say_taken(lost);
+            0
         }
-    }
+        Err(CaptureError::Refused(reason)) => {
+            say_refusal(reason, payload);
+            reason.number()
+        }
+        Err(CaptureError::BadCapture) => return 0,
+    };
+    say(b"\n");
+    number
 }
 
 // The payload of packet i, which begins at start.
@@ -70,17 +70,12 @@ fn payload_at(capture: &[u8], i: usize, start: usize) -> &[u8]
     requires { (2 + 12 * (i + 1) ≤ length capture.now) × (start ≤ length capture.now) }
     ensures { start + length result.now ≤ length capture.now }
 {
-    let size = octets::two(capture, 2 + 12 * i + 10) as usize;
+    let size = usize::from(octets::two(capture, 2 + 12 * i + 10));
     if size <= capture.len() - start {
-        return &capture[start..start + size];
+        &capture[start..start + size]
+    } else {
+        &[]
     }
-    &capture[..0]
-}
-
-// One more answer with this number.
-fn tally_one(tally: &mut [u64; 256], number: u8) {
-    let at = number as usize;
-    tally[at] = std::num::wrapping_add_u64(tally[at], 1);
 }
 
 // The lines of all packets, and how often each number was answered.
@@ -89,13 +84,11 @@ pub(crate) fn explain_packets(capture: &[u8], count: usize) -> [u64; 256]
 {
     let mut tally = [0u64; 256];
     let mut start = 2 + 12 * count;
-    let mut i: usize = 0;
-    while i < count {
+    for i in 0..count {
         let payload = payload_at(capture, i, start);
-        let number = explain_packet(capture, i, payload);
-        tally_one(&mut tally, number);
-        start = start + payload.len();
-        i = i + 1;
+        let number = usize::from(explain_packet(capture, i, payload));
+        tally[number] = tally[number].wrapping_add(1);
+        start += payload.len();
     }
     tally
 }

@@ -1,4 +1,5 @@
 -- Laws of the agreed limits: what their opening says. Assumes nothing.
+use Rattle.std.proofs.Common.{Ok, Err}
 use Prim.Native.Nat.{◌≤◌}
 use mathlib.Core.Path.{◌≡◌, refl}
 use mathlib.Core.Bool.{Bool, true, false, cond, ◌&&◌}
@@ -9,19 +10,18 @@ use Rattle.answers.specs.declared.Refusal.{Refusal}
 use Rattle.answers.specs.declared.Refusal.TheVariants.{NotApplicable}
 use Rattle.form.specs.Agreed.{in_range, opened}
 use Rattle.form.specs.declared.Limits.{Limits}
-use Rattle.form.specs.declared.Opened.TheVariants.{Agreed, Refused}
 
-pub opened-agreed : (m a : Limits) → opened m.max_l m.max_b ≡ Agreed a → (in_range m ≡ true) × (a ≡ m)
+pub opened-agreed : (m a : Limits) → opened m.max_l m.max_b ≡ Ok a → (in_range m ≡ true) × (a ≡ m)
 opened-agreed m a e = go (in_range m) refl e
   where
-    go : (b : Bool) → in_range m ≡ b → cond b (Agreed m) (Refused NotApplicable) ≡ Agreed a → (in_range m ≡ true) × (a ≡ m)
+    go : (b : Bool) → in_range m ≡ b → cond b (Ok m) (Err NotApplicable) ≡ Ok a → (in_range m ≡ true) × (a ≡ m)
     go true q x = (q, cc)
     go false q x = apart (cc)
 
-pub opened-refused : (m : Limits) (r : Refusal) → opened m.max_l m.max_b ≡ Refused r → (in_range m ≡ false) × (r ≡ NotApplicable)
+pub opened-refused : (m : Limits) (r : Refusal) → opened m.max_l m.max_b ≡ Err r → (in_range m ≡ false) × (r ≡ NotApplicable)
 opened-refused m r e = go (in_range m) refl e
   where
-    go : (b : Bool) → in_range m ≡ b → cond b (Agreed m) (Refused NotApplicable) ≡ Refused r → (in_range m ≡ false) × (r ≡ NotApplicable)
+    go : (b : Bool) → in_range m ≡ b → cond b (Ok m) (Err NotApplicable) ≡ Err r → (in_range m ≡ false) × (r ≡ NotApplicable)
     go true q x = apart (cc)
     go false q x = (q, cc)
 

@@ -1,13 +1,12 @@
 -- Document 01, "Payloads": the agreed form of a session, and its maxima.
-use Rattle.std.specs.Prelude.{ℕ, Bool, cond, ◌&&◌, leb}
+use Rattle.std.specs.Prelude.{ℕ, Bool, cond, ◌&&◌, leb, Result, Ok, Err}
+use Rattle.answers.specs.declared.Refusal.{Refusal}
 use Rattle.answers.specs.declared.Refusal.TheVariants.{NotApplicable}
 use Rattle.frame.specs.FrameTable.{FrameTable, rows_of}
 use Rattle.frame.specs.Shape.{Voice, voice_with}
 use Rattle.frame.specs.declared.Vocoder.{Vocoder}
 use Rattle.frame.specs.declared.Vocoder.TheVariants.{Evrc}
 use Rattle.form.specs.declared.Limits.{Limits}
-use Rattle.form.specs.declared.Opened.{Opened}
-use Rattle.form.specs.declared.Opened.TheVariants.{Agreed, Refused}
 use Rattle.form.specs.declared.Form.{Form}
 use Rattle.form.specs.declared.Form.TheVariants.{Interleaved}
 
@@ -24,10 +23,10 @@ abbrev pub in_range : Limits → Bool
 in_range m = leb m.max_l 7 && leb 1 m.max_b && leb m.max_b 10
 
 -- "A reader given maxima out of range answers 21 first."
-abbrev pub opened : ℕ → ℕ → Opened
+abbrev pub opened : ℕ → ℕ → Result Limits Refusal
 opened l b =
-    cond (in_range (record { max_l = l; max_b = b })) (Agreed (record { max_l = l; max_b = b }))
-    (Refused NotApplicable)
+    cond (in_range (record { max_l = l; max_b = b })) (Ok (record { max_l = l; max_b = b }))
+    (Err NotApplicable)
 
 -- the vocoder that is spoken in a form: EVRC, as yet in each
 abbrev pub vocoder_of : Form → Vocoder

@@ -7,17 +7,10 @@ ghost use Rattle.form.specs.Agreed.{opened, defaults};
 use answers::Refusal;
 
 // The agreed maxima: the greatest L and the greatest B.
-#[derive(Clone, Copy)]
+#[derive(Clone, Copy, Debug, PartialEq, Eq)]
 pub struct Limits {
     pub max_l: u8,
     pub max_b: u8,
-}
-
-// Limits that are in range, or the refusal.
-#[derive(Clone, Copy)]
-pub enum Opened {
-    Agreed(Limits),
-    Refused(Refusal),
 }
 
 impl Limits {
@@ -44,24 +37,18 @@ impl Limits {
     }
 
     // Opens limits: L at most 0 to 7 and B at most 1 to 10, or 21.
-    pub fn open(max_l: u8, max_b: u8) -> Opened
+    pub fn open(max_l: u8, max_b: u8) -> Result<Limits, Refusal>
         ensures { result ≡ opened max_l max_b }
     {
-        if Self::GREATEST_L < max_l {
-            return Opened::Refused(Refusal::NotApplicable);
+        if Self::GREATEST_L < max_l || max_b < Self::LEAST_B || Self::GREATEST_B < max_b {
+            return Err(Refusal::NotApplicable);
         }
-        if max_b < Self::LEAST_B {
-            return Opened::Refused(Refusal::NotApplicable);
-        }
-        if Self::GREATEST_B < max_b {
-            return Opened::Refused(Refusal::NotApplicable);
-        }
-        Opened::Agreed(Limits { max_l, max_b })
+        Ok(Limits { max_l, max_b })
     }
 }
 
 // The agreed form of a session: header-free, or interleaved with its maxima.
-#[derive(Clone, Copy)]
+#[derive(Clone, Copy, Debug, PartialEq, Eq)]
 pub enum Form {
     HeaderFree,
     Interleaved(Limits),

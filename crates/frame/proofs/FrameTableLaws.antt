@@ -1,25 +1,23 @@
 -- Laws of any frame table. Assumes nothing.
-use Prim.Native.Nat.{ℕ, ◌-◌, ◌*◌, ◌^◌, ◌%◌, ◌≤◌, ◌<◌, zero-le}
+use Rattle.std.proofs.Common.{Option, Some}
+use Prim.Native.Nat.{ℕ, ◌*◌, ◌^◌, ◌%◌, ◌≤◌, ◌<◌, zero-le}
 use mathlib.Core.Path.{◌≡◌, refl, sym, ap, subst, ◌∙◌}
-use mathlib.Core.List.{List, [], ◌∷◌}
+use mathlib.Core.List.{[], ◌∷◌}
 use mathlib.Core.Bool.{Bool, true, false, cond, ◌&&◌}
 use native.Mathlib.Nat.{one-mul, mod-eq_of_lt, lt_of_lt_of_le}
 use native.Mathlib.Omega.{arith}
 use lib.Dec.{T, leb, eqb, leb→le, eqb→eq}
-use lib.ListN.{length, get_or}
-use lib.Pow.{pow_pos, pow_mono, shl_exact}
-use borrow.Author.Tests.{eq-eqb, ne_eqb, eqb-true}
+use lib.Pow.{pow_mono, shl_exact}
+use borrow.Author.Tests.{eqb-true}
 use Rattle.octets.proofs.Logic.{apart, both_hold, hold-true}
-use Rattle.frame.specs.FrameTable.{FrameTable, evrc, rows_of, row_of, row_of_size, row_with, is_there, octets_of, known, size, within, erasure, erases}
-use Rattle.frame.specs.FrameTable.{single, low_bits, sendable}
+use Rattle.frame.specs.FrameTable.{FrameTable, rows_of, row_of, row_with, is_there, octets_of, known, size, within, erasure, erases}
+use Rattle.frame.specs.FrameTable.{single, low_bits}
 use Rattle.frame.specs.Shape.{packets_of, shape_of}
 use Rattle.frame.specs.declared.Row.{Row}
 use Rattle.frame.specs.declared.Vocoder.{Vocoder}
 use Rattle.frame.specs.declared.Vocoder.TheVariants.{Evrc}
-use Rattle.frame.specs.declared.Lookup.{Lookup}
-use Rattle.frame.specs.declared.Lookup.TheVariants.{Found}
 
-either : (b : Bool) (x y : Lookup) (m : ℕ) → octets_of x ≤ m → octets_of y ≤ m → octets_of (cond b x y) ≤ m
+either : (b : Bool) (x y : Option Row) (m : ℕ) → octets_of x ≤ m → octets_of y ≤ m → octets_of (cond b x y) ≤ m
 either true x y m p q = p
 either false x y m p q = q
 
@@ -29,16 +27,7 @@ unfolding row_of
 size-within m [] t w = zero-le
 size-within m (r ∷ v) t w =
     let h = both_hold (leb r.octets m) (within m v) w in
-    either (eqb t r.kind) (Found r) (row_of v t) m (leb→le r.octets m h.0) (size-within m v t h.1)
-
--- there is one vocoder as yet: what was looked up in its table was looked up in that of any
-pub in-any : (v : Vocoder) (t : ℕ) (l : Lookup) → l ≡ row_of evrc t → l ≡ row_of (rows_of v) t
-unfolding rows_of
-in-any Evrc t l e = e
-
-pub in-any-by-size : (v : Vocoder) (n : ℕ) (l : Lookup) → l ≡ row_of_size evrc n → l ≡ row_of_size (rows_of v) n
-unfolding rows_of
-in-any-by-size Evrc n l e = e
+    either (eqb t r.kind) (Some r) (row_of v t) m (leb→le r.octets m h.0) (size-within m v t h.1)
 
 -- of the table of every vocoder: no body is longer than a cell of its groups
 pub rows_fit : (v : Vocoder) → T (within (shape_of v).cell (rows_of v))
@@ -71,16 +60,16 @@ pub rows-within : (v : Vocoder) → T (within 22 (rows_of v))
 rows-within v = subst (λ (i : ℕ). T (within i (rows_of v))) (sym (cell-any v)) (rows_fit v)
 
 -- what a lookup says of the type
-pub found-known : (v : FrameTable) (t : ℕ) (r : Row) → row_of v t ≡ Found r → known v t ≡ true
+pub found-known : (v : FrameTable) (t : ℕ) (r : Row) → row_of v t ≡ Some r → known v t ≡ true
 found-known v t r e = ap is_there e
 
-pub found-size : (v : FrameTable) (t : ℕ) (r : Row) → row_of v t ≡ Found r → size v t ≡ r.octets
+pub found-size : (v : FrameTable) (t : ℕ) (r : Row) → row_of v t ≡ Some r → size v t ≡ r.octets
 found-size v t r e = ap octets_of e
 
-pub found-fits : (v : Vocoder) (t : ℕ) (r : Row) → row_of (rows_of v) t ≡ Found r → r.octets ≤ (shape_of v).cell
+pub found-fits : (v : Vocoder) (t : ℕ) (r : Row) → row_of (rows_of v) t ≡ Some r → r.octets ≤ (shape_of v).cell
 found-fits v t r e = rw (found-size (rows_of v) t r e) at (row_fits v t)
 
-pub found-small : (v : Vocoder) (t : ℕ) (r : Row) → row_of (rows_of v) t ≡ Found r → r.octets ≤ 255
+pub found-small : (v : Vocoder) (t : ℕ) (r : Row) → row_of (rows_of v) t ≡ Some r → r.octets ≤ 255
 found-small v t r e = omega (arith, found-fits v t r e, cell-small v)
 
 -- the lowest bits of an octet
@@ -90,26 +79,8 @@ all-bits x bits h k = sym (mod-eq_of_lt (lt_of_lt_of_le h (pow_mono k)))
 pub unit : (bits : ℕ) → bits < 8 → 1 * 2 ^ bits % 256 ≡ 2 ^ bits
 unit bits h = shl_exact 1 bits 8 (omega arith) (omega arith) ∙ one-mul (2 ^ bits)
 
--- whether a body may be sent, test by test
-module _ (v : FrameTable) (t : ℕ) (b : List ℕ) (r : Row) (is : row_of v t ≡ Found r) where
-  pub wrong-length : (length b ≡ r.octets → ⊥) → false ≡ sendable v t b
-  wrong-length n = simp (is, ne_eqb _ _ n)
-
-  pub bits-set : length b ≡ r.octets → (low_bits (get_or b (r.octets - 1) 0) r.spare ≡ 0 → ⊥) → false ≡ sendable v t b
-  bits-set h n = simp (is, eq-eqb _ _ h, ne_eqb _ _ n)
-
-  pub bits-clear : length b ≡ r.octets → low_bits (get_or b (r.octets - 1) 0) r.spare ≡ 0 → r.sent ≡ sendable v t b
-  bits-clear h z = simp (is, eq-eqb _ _ h, eq-eqb _ _ z)
-
-  pub no-octets : length b ≡ r.octets → r.octets ≡ 0 → r.sent ≡ sendable v t b
-  no-octets h z = bits-clear h (ap (λ (x : ℕ). low_bits x r.spare) (empty b (h ∙ z)) ∙ mod-eq_of_lt (pow_pos r.spare))
-    where
-      empty : (l : List ℕ) → length l ≡ 0 → get_or l (r.octets - 1) 0 ≡ 0
-      empty [] e = refl
-      empty (x ∷ l) e = absurd (omega arith)
-
 -- the row that a size finds, of a table whose types stand in one row each
-pub size-listed : (v u : FrameTable) (n : ℕ) (r : Row) → T (single v u) → row_with u n ≡ Found r → (known v r.kind ≡ true) × (size v r.kind ≡ n)
+pub size-listed : (v u : FrameTable) (n : ℕ) (r : Row) → T (single v u) → row_with u n ≡ Some r → (known v r.kind ≡ true) × (size v r.kind ≡ n)
 unfolding row_with
 size-listed v [] n r h e = apart (cc)
 size-listed v (x ∷ u) n r h e = go (eqb n x.octets) refl e (size-listed v u n r a.1)
@@ -123,8 +94,8 @@ size-listed v (x ∷ u) n r h e = go (eqb n x.octets) refl e (size-listed v u n 
     go :
         (t : Bool) →
         eqb n x.octets ≡ t →
-        cond t (Found x) (row_with u n) ≡ Found r →
-        (row_with u n ≡ Found r → (known v r.kind ≡ true) × (size v r.kind ≡ n)) →
+        cond t (Some x) (row_with u n) ≡ Some r →
+        (row_with u n ≡ Some r → (known v r.kind ≡ true) × (size v r.kind ≡ n)) →
         (known v r.kind ≡ true) × (size v r.kind ≡ n)
     go true q y i =
         let z : x ≡ r = cc in

@@ -1,4 +1,5 @@
 -- Laws of frame k of these frames, for payloads and recordings alike. Assumes nothing.
+use Rattle.std.proofs.Common.{Result, Err}
 use Prim.Native.Nat.{ℕ, zero, suc, ◌+◌, ◌-◌, ◌≤◌, ◌<◌}
 use mathlib.Core.Path.{◌≡◌, refl, sym, ap, ◌∙◌}
 use mathlib.Core.List.{List, [], ◌∷◌, ◌++◌}
@@ -17,10 +18,9 @@ use Rattle.octets.proofs.OctetsLaws.{part-is}
 use Rattle.answers.specs.declared.Refusal.{Refusal}
 use Rattle.answers.specs.declared.Refusal.TheVariants.{NotApplicable}
 use Rattle.frame.specs.FrameTable.{Frame, types_of, Every}
-use Rattle.frame.specs.Places.{up_to, Given, frames, refused_frames, taken, frame_at, no_frame, located_of, body_of, start_of, size_of}
+use Rattle.frame.specs.Places.{up_to, Given, frames, refused_frames, taken, frame_at, no_frame, located_of, body_of, start_of, size_of, lies_at}
 use Rattle.frame.specs.Places.{lies_in, part_of, part_start, VeryPart}
 use Rattle.frame.specs.declared.Located.{Located}
-use Rattle.frame.specs.declared.Located.TheVariants.{At, Refused}
 
 -- ---- the first n of a sequence
 module _ {A : Type 0} (f : ℕ → A) where
@@ -77,24 +77,24 @@ every-so P Q h [] a = tt
 every-so P Q h (f ∷ fs) a = (h f a.0, every-so P Q h fs a.1)
 
 -- ---- a part
-not_there : (l : Located) (p : List ℕ) → lies_in l p ≡ false → ([] ≡ part_of l p) × (0 ≡ part_start l p)
+not_there : (l : Result Located Refusal) (p : List ℕ) → lies_in l p ≡ false → ([] ≡ part_of l p) × (0 ≡ part_start l p)
 unfolding part_of part_start
 not_there l p e = (rw e, rw e)
 
-there : (l : Located) (p : List ℕ) → lies_in l p ≡ true → (take (size_of l) (drop (start_of l) p) ≡ part_of l p) × (start_of l ≡ part_start l p)
+there : (l : Result Located Refusal) (p : List ℕ) → lies_in l p ≡ true → (take (size_of l) (drop (start_of l) p) ≡ part_of l p) × (start_of l ≡ part_start l p)
 unfolding part_of part_start
 there l p e = (rw e, rw e)
 
 module _ (t s z : ℕ) (p : List ℕ) where
-  pub starts-past : length p < s → lies_in (At t s z) p ≡ false
+  pub starts-past : length p < s → lies_in (lies_at t s z) p ≡ false
   unfolding lies_in
   starts-past h = simp (lt-leb _ _ h)
 
-  pub ends-past : s ≤ length p → length p - s < z → lies_in (At t s z) p ≡ false
+  pub ends-past : s ≤ length p → length p - s < z → lies_in (lies_at t s z) p ≡ false
   unfolding lies_in
   ends-past h k = simp (le-leb _ _ h, lt-leb _ _ k)
 
-  inside : s + z ≤ length p → lies_in (At t s z) p ≡ true
+  inside : s + z ≤ length p → lies_in (lies_at t s z) p ≡ true
   unfolding lies_in
   inside h =
       let a : s ≤ length p = omega arith in
@@ -102,7 +102,7 @@ module _ (t s z : ℕ) (p : List ℕ) where
       simp (le-leb _ _ a, le-leb _ _ b)
 
 -- a reference to no octets, at the beginning; and one to the octets from s to s + z
-pub no_part : (o r : Bor (List ℕ)) (l : Located) → lies_in l o.now ≡ false → r.now ≡ [] → r.ref_ptr ≡ o.ref_ptr → VeryPart o (part_start l o.now) (part_of l o.now) r
+pub no_part : (o r : Bor (List ℕ)) (l : Result Located Refusal) → lies_in l o.now ≡ false → r.now ≡ [] → r.ref_ptr ≡ o.ref_ptr → VeryPart o (part_start l o.now) (part_of l o.now) r
 no_part o r l e h q =
     let j = not_there l o.now e in
     record {
@@ -115,9 +115,9 @@ pub very-part :
     s + z ≤ length o.now →
     r.now ≡ take (s + z - s) (drop s o.now) →
     r.ref_ptr ≡ (o.ref_ptr.0, s + o.ref_ptr.1) →
-    VeryPart o (part_start (At t s z) o.now) (part_of (At t s z) o.now) r
+    VeryPart o (part_start (lies_at t s z) o.now) (part_of (lies_at t s z) o.now) r
 very-part o r t s z h e q =
-    let j = there (At t s z) o.now (inside t s z o.now h) in
+    let j = there (lies_at t s z) o.now (inside t s z o.now h) in
     record {
       holds = e ∙ part-is o.now s z ∙ j.0;
       lies = q ∙ ap (λ (i : ℕ). (o.ref_ptr.0, i + o.ref_ptr.1)) j.1;
@@ -153,7 +153,7 @@ LaidIn p (refused_frames f) = Unit {0}
 -- so the part of a located frame is its body, and starts where it was said to; of a refusal it is empty
 part_body : (p : List ℕ) (g : Given) (k : ℕ) → LaidIn p g → (part_of (located_of g k) p ≡ body_of g k) × (part_start (located_of g k) p ≡ start_of (located_of g k))
 unfolding located_of body_of lies_in
-part_body p (refused_frames f) k h = let j = not_there (Refused f) p refl in (sym j.0, sym j.1)
+part_body p (refused_frames f) k h = let j = not_there (Err f) p refl in (sym j.0, sym j.1)
 part_body p (frames head gap fs) k h = go (ltb k (length fs)) refl
   where
     go :
@@ -163,14 +163,14 @@ part_body p (frames head gap fs) k h = go (ltb k (length fs)) refl
         × (part_start (located_of (frames head gap fs) k) p ≡ start_of (located_of (frames head gap fs) k))
     go true e =
         let i = lies p head gap fs k h (ltb-true _ _ e) in
-        let j = there (At (frame_at fs k).type (head + taken gap (take k fs) + gap) (length (frame_at fs k).body)) p (inside (frame_at fs k).type _ _ p i.within) in
+        let j = there (lies_at (frame_at fs k).type (head + taken gap (take k fs) + gap) (length (frame_at fs k).body)) p (inside (frame_at fs k).type _ _ p i.within) in
         rw e (sym j.0 ∙ i.part, sym j.1)
     go false e =
-        let j = not_there (Refused NotApplicable) p refl in
+        let j = not_there (Err NotApplicable) p refl in
         rw e (sym j.0 ∙ sym (ap (λ (x : Frame). x.body) (get_or-eq_default fs no_frame (ltb-false _ _ e))), sym j.1)
 
 pub very-body :
-    (o r : Bor (List ℕ)) (g : Given) (k : ℕ) (l : Located) →
+    (o r : Bor (List ℕ)) (g : Given) (k : ℕ) (l : Result Located Refusal) →
     LaidIn o.now g →
     l ≡ located_of g k →
     VeryPart o (part_start l o.now) (part_of l o.now) r →
@@ -178,34 +178,35 @@ pub very-body :
 very-body o r g k l h e x =
     let j = part_body o.now g k h in
     record {
-      holds = x.holds ∙ ap (λ (m : Located). part_of m o.now) e ∙ j.0;
-      lies = x.lies ∙ ap (λ (i : ℕ). (o.ref_ptr.0, i + o.ref_ptr.1)) (ap (λ (m : Located). part_start m o.now) e ∙ j.1);
+      holds = x.holds ∙ ap (λ (m : Result Located Refusal). part_of m o.now) e ∙ j.0;
+      lies = x.lies ∙ ap (λ (i : ℕ). (o.ref_ptr.0, i + o.ref_ptr.1)) (ap (λ (m : Result Located Refusal). part_start m o.now) e ∙ j.1);
     }
 
 -- frame k is asked for
-pub asked-refused : (r : Refusal) (k : ℕ) → Refused r ≡ located_of (refused_frames r) k
+pub asked-refused : (r : Refusal) (k : ℕ) → Err r ≡ located_of (refused_frames r) k
 unfolding located_of
 asked-refused r k = refl
 
-pub asked-past : (head gap : ℕ) (fs : List Frame) (k : ℕ) → length fs ≤ k → Refused NotApplicable ≡ located_of (frames head gap fs) k
+pub asked-past : (head gap : ℕ) (fs : List Frame) (k : ℕ) → length fs ≤ k → Err NotApplicable ≡ located_of (frames head gap fs) k
 unfolding located_of
 asked-past head gap fs k h = rw (le-ltb _ _ h)
 
-pub asked : (head gap : ℕ) (fs : List Frame) (k : ℕ) → k < length fs → At (frame_at fs k).type (head + taken gap (take k fs) + gap) (length (frame_at fs k).body) ≡ located_of (frames head gap fs) k
+pub asked : (head gap : ℕ) (fs : List Frame) (k : ℕ) → k < length fs →
+    lies_at (frame_at fs k).type (head + taken gap (take k fs) + gap) (length (frame_at fs k).body) ≡ located_of (frames head gap fs) k
 unfolding located_of
 asked head gap fs k h = rw (lt-ltb _ _ h)
 
 -- where frame k is said to lie, by whether there is one
-abbrev pub place_if : ℕ → ℕ → List Frame → ℕ → Bool → Located
+abbrev pub place_if : ℕ → ℕ → List Frame → ℕ → Bool → Result Located Refusal
 place_if head gap fs k b =
-    cond b (At (frame_at fs k).type (head + taken gap (take k fs) + gap) (length (frame_at fs k).body)) (Refused NotApplicable)
+    cond b (lies_at (frame_at fs k).type (head + taken gap (take k fs) + gap) (length (frame_at fs k).body)) (Err NotApplicable)
 
 -- "A refusal's part is empty."
-pub refusal-empty : (g : Given) (k : ℕ) (r : Refusal) → Refused r ≡ located_of g k → body_of g k ≡ []
+pub refusal-empty : (g : Given) (k : ℕ) (r : Refusal) → Err r ≡ located_of g k → body_of g k ≡ []
 unfolding located_of body_of
 refusal-empty (refused_frames f) k r e = refl
 refusal-empty (frames head gap fs) k r e = go (ltb k (length fs)) refl e
   where
-    go : (b : Bool) → ltb k (length fs) ≡ b → Refused r ≡ place_if head gap fs k b → (frame_at fs k).body ≡ []
+    go : (b : Bool) → ltb k (length fs) ≡ b → Err r ≡ place_if head gap fs k b → (frame_at fs k).body ≡ []
     go true q x = apart (cc)
     go false q x = ap (λ (f : Frame). f.body) (get_or-eq_default fs no_frame (ltb-false _ _ q))

@@ -1,10 +1,9 @@
 -- Document 01, "Frames": a frame has a type and a body; a frame table is a list of rows, and laws are proved of any table.
-use Rattle.std.specs.Prelude.{ℕ, ◌-◌, ◌%◌, ◌^◌, ◌≡◌, List, [], ◌∷◌, Bool, true, false, cond, ◌&&◌, eqb, leb, length, get_or}
+use Rattle.std.specs.Prelude.{ℕ, ◌-◌, ◌%◌, ◌^◌, ◌≡◌, List, [], ◌∷◌, Bool, true, false, cond, ◌&&◌, eqb, leb, length, get_or, Option}
+use Rattle.std.specs.Prelude.{Some, None}
 use Rattle.frame.specs.declared.Row.{Row}
 use Rattle.frame.specs.declared.Vocoder.{Vocoder}
 use Rattle.frame.specs.declared.Vocoder.TheVariants.{Evrc}
-use Rattle.frame.specs.declared.Lookup.{Lookup}
-use Rattle.frame.specs.declared.Lookup.TheVariants.{Found, Missing}
 
 -- "A frame has a type and a body."
 pub record Frame : Type 0 where
@@ -39,28 +38,28 @@ abbrev pub erasure : ℕ
 erasure = 14
 
 -- the row of a type; "all others are reserved"
-unfoldable pub row_of : FrameTable → ℕ → Lookup
-row_of [] t = Missing
-row_of (r ∷ v) t = cond (eqb t r.kind) (Found r) (row_of v t)
+unfoldable pub row_of : FrameTable → ℕ → Option Row
+row_of [] t = None
+row_of (r ∷ v) t = cond (eqb t r.kind) (Some r) (row_of v t)
 
 -- the first row whose body has n octets
-unfoldable pub row_with : FrameTable → ℕ → Lookup
-row_with [] n = Missing
-row_with (r ∷ v) n = cond (eqb n r.octets) (Found r) (row_with v n)
+unfoldable pub row_with : FrameTable → ℕ → Option Row
+row_with [] n = None
+row_with (r ∷ v) n = cond (eqb n r.octets) (Some r) (row_with v n)
 
 -- "Payloads", type 2: "its type known by the length .. any other length, 0 too, is refused"
-abbrev pub row_of_size : FrameTable → ℕ → Lookup
-row_of_size v n = cond (eqb n 0) Missing (row_with v n)
+abbrev pub row_of_size : FrameTable → ℕ → Option Row
+row_of_size v n = cond (eqb n 0) None (row_with v n)
 
 -- whether a row was found
-abbrev pub is_there : Lookup → Bool
-is_there (Found r) = true
-is_there Missing = false
+abbrev pub is_there : Option Row → Bool
+is_there (Some r) = true
+is_there None = false
 
 -- the octets of its body, 0 if there is none
-abbrev pub octets_of : Lookup → ℕ
-octets_of (Found r) = r.octets
-octets_of Missing = 0
+abbrev pub octets_of : Option Row → ℕ
+octets_of (Some r) = r.octets
+octets_of None = 0
 
 -- whether a type is in the table
 abbrev pub known : FrameTable → ℕ → Bool
@@ -103,9 +102,9 @@ abbrev pub low_bits : ℕ → ℕ → ℕ
 low_bits x bits = x % 2 ^ bits
 
 -- a body that a row lets be sent: as long as the row says, its type to be sent, the spare low bits of its last octet zero
-abbrev pub sendable_as : Lookup → List ℕ → Bool
-sendable_as Missing b = false
-sendable_as (Found r) b =
+abbrev pub sendable_as : Option Row → List ℕ → Bool
+sendable_as None b = false
+sendable_as (Some r) b =
     eqb (length b) r.octets && eqb (low_bits (get_or b (r.octets - 1) 0) r.spare) 0 && r.sent
 
 -- "A frame is sendable if its type is 0, 1, 3 or 4 and, for type 4, those 5 bits are zero."

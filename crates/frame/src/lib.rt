@@ -10,7 +10,9 @@ use answers::Refusal;
 
 // A row of a frame table: a type, the octets of its body, the low bits of the last octet that are zero when sent, and
 // whether a frame of the type may be sent.
-#[derive(Clone, Copy)]
+// A type is the number that the papers and the C calls give it: lent octets may hold any, and the rule of a holding judges them, so no
+// enum of the types in the table can stand there.
+#[derive(Clone, Copy, Debug, PartialEq, Eq)]
 pub struct Row {
     pub kind: u8,
     pub octets: usize,
@@ -18,60 +20,55 @@ pub struct Row {
     pub sent: bool,
 }
 
-// What a table has for a type, or for a size.
-#[derive(Clone, Copy)]
-pub enum Lookup {
-    Found(Row),
-    Missing,
-}
-
 // The vocoders that the sets speak, each with a frame table.
-#[derive(Clone, Copy)]
+#[derive(Clone, Copy, Debug, PartialEq, Eq)]
 pub enum Vocoder {
     Evrc,
 }
 
 // The row of a type in the EVRC table; all other types are reserved.
-fn evrc_row(kind: u8) -> Lookup
+#[tactic(auto, unfolding(crate::specs::FrameTable::row_of))]
+fn evrc_row(kind: u8) -> Option<Row>
     ensures { result ≡ row_of evrc kind }
 {
     match kind {
-        0 => Lookup::Found(Row {
+        0 => Some(Row {
             kind: 0,
             octets: 0,
             spare: 0,
             sent: true,
         }),
-        1 => Lookup::Found(Row {
+        1 => Some(Row {
             kind: 1,
             octets: 2,
             spare: 0,
             sent: true,
         }),
-        3 => Lookup::Found(Row {
+        3 => Some(Row {
             kind: 3,
             octets: 10,
             spare: 0,
             sent: true,
         }),
-        4 => Lookup::Found(Row {
+        4 => Some(Row {
             kind: 4,
             octets: 22,
             spare: 5,
             sent: true,
         }),
-        14 => Lookup::Found(Row {
+        14 => Some(Row {
             kind: 14,
             octets: 0,
             spare: 0,
             sent: false,
         }),
-        _ => Lookup::Missing,
+        _ => None,
     }
 }
 
 // The row of a type in a vocoder's frame table; all other types are reserved.
-pub fn row_of(vocoder: Vocoder, kind: u8) -> Lookup
+#[tactic(auto, unfolding(crate::specs::FrameTable::rows_of))]
+pub fn row_of(vocoder: Vocoder, kind: u8) -> Option<Row>
     ensures { result ≡ row_of (rows_of vocoder) kind }
 {
     match vocoder {
@@ -80,6 +77,7 @@ pub fn row_of(vocoder: Vocoder, kind: u8) -> Lookup
 }
 
 // The octets of a cell, the room of one frame, in a vocoder's groups.
+#[tactic(auto, unfolding(crate::specs::Shape::shape_of))]
 pub fn cell_of(vocoder: Vocoder) -> usize
     ensures { result ≡ (shape_of vocoder).cell }
 {
@@ -89,6 +87,7 @@ pub fn cell_of(vocoder: Vocoder) -> usize
 }
 
 // The packets of the longest group of a vocoder.
+#[tactic(auto, unfolding(crate::specs::Shape::shape_of))]
 pub fn packets_of(vocoder: Vocoder) -> usize
     ensures { result ≡ packets_of (shape_of vocoder) }
 {
@@ -101,28 +100,26 @@ pub fn packets_of(vocoder: Vocoder) -> usize
 pub fn body_size(vocoder: Vocoder, kind: u8) -> usize
     ensures { result ≡ size (rows_of vocoder) kind }
 {
-    let listed = row_of(vocoder, kind);
-    match listed {
-        Lookup::Found(row) => row.octets,
-        Lookup::Missing => 0,
-    }
+    row_of(vocoder, kind).map_or(0, |row| row.octets)
 }
 
 // The row that a header-free body of so many octets has in the EVRC table; no octets have none.
-fn evrc_row_of_size(size: usize) -> Lookup
+#[tactic(auto, unfolding(crate::specs::FrameTable::row_of, crate::specs::FrameTable::row_with))]
+fn evrc_row_of_size(size: usize) -> Option<Row>
     ensures { result ≡ row_of_size evrc size }
 {
     match size {
-        0 => Lookup::Missing,
+        0 => None,
         2 => evrc_row(1),
         10 => evrc_row(3),
         22 => evrc_row(4),
-        _ => Lookup::Missing,
+        _ => None,
     }
 }
 
 // The row that a header-free body of so many octets has in a vocoder's frame table; no octets have none.
-pub fn row_of_size(vocoder: Vocoder, size: usize) -> Lookup
+#[tactic(auto, unfolding(crate::specs::FrameTable::rows_of))]
+pub fn row_of_size(vocoder: Vocoder, size: usize) -> Option<Row>
     ensures { result ≡ row_of_size (rows_of vocoder) size }
 {
     match vocoder {
@@ -144,49 +141,35 @@ pub fn low_bits(octet: u8, bits: u8) -> u8
 pub fn is_sendable(vocoder: Vocoder, kind: u8, body: &[u8]) -> bool
     ensures { result ≡ sendable (rows_of vocoder) kind body.now }
 {
-    let found = row_of(vocoder, kind);
-    match found {
-        Lookup::Missing => false,
-        Lookup::Found(row) => {
-            let octets = row.octets;
-            if body.len() != octets {
-                return false;
-            }
-            if octets == 0 {
-                return row.sent;
-            }
-            let last = octets - 1;
-            let left = low_bits(body[last], row.spare);
-            if left == 0 { row.sent } else { false }
-        }
+    let Some(row) = row_of(vocoder, kind) else {
+        return false;
+    };
+    if body.len() != row.octets {
+        return false;
+    }
+    match body.last() {
+        Some(last) => low_bits(*last, row.spare) == 0 && row.sent,
+        None => row.sent,
     }
 }
 
-// Where a frame lies: its type, and its body's start and size; or the refusal.
-#[derive(Clone, Copy)]
-pub enum Located {
-    At { kind: u8, start: usize, size: usize },
-    Refused(Refusal),
+// Where a frame lies: its type, and its body's start and size.
+#[derive(Clone, Copy, Debug, PartialEq, Eq)]
+pub struct Located {
+    pub kind: u8,
+    pub start: usize,
+    pub size: usize,
 }
 
 // The very part of the octets where a frame lies; empty on a refusal, and where it does not lie within them.
-pub fn part(octets: &[u8], place: Located) -> &[u8]
+pub fn part(octets: &[u8], place: Result<Located, Refusal>) -> &[u8]
     ensures { VeryPart octets.entry (part_start place octets.now) (part_of place octets.now) result }
 {
-    match place {
-        Located::Refused(_) => &octets[..0],
-        Located::At {
-            kind: _,
-            start,
-            size,
-        } => {
-            if octets.len() < start {
-                return &octets[..0];
-            }
-            if octets.len() - start < size {
-                return &octets[..0];
-            }
-            &octets[start..start + size]
-        }
+    let Ok(at) = place else {
+        return &octets[..0];
+    };
+    if octets.len() < at.start || octets.len() - at.start < at.size {
+        return &octets[..0];
     }
+    &octets[at.start..at.start + at.size]
 }

@@ -7,10 +7,13 @@ use Rattle.frame.specs.declared.Vocoder.{Vocoder}
 use Rattle.frame.specs.declared.Vocoder.TheVariants.{Evrc}
 use Rattle.frame.specs.FrameTable.{rows_of, erasure}
 use Rattle.frame.specs.Shape.{Shape, Voice, packets_of, room_of, voice_with}
+use Rattle.numbers.specs.Bases.{same_numbers}
 use Rattle.numbers.specs.declared.GroupNumbers.{GroupNumbers}
 use Rattle.bundle.specs.declared.Bundle.{Bundle}
+use Rattle.bundle.specs.declared.Cells.{Cells}
 use Rattle.bundle.specs.Bundles.{bundle_in, frames_right, not_held, same_bundles}
 use Rattle.holding.specs.declared.Holding.{Holding}
+use Rattle.holding.specs.declared.Group.{Group}
 
 -- ---- a holding
 
@@ -29,36 +32,46 @@ abbrev pub holding_of : ℕ → GroupNumbers → List Bool → List ℕ → List
 holding_of source g hs ms rs =
     record {
       source = source;
-      sequence = g.sequence;
-      timestamp = g.timestamp;
-      l = g.l;
-      b = g.b;
+      numbers = g;
       held = hs;
       marks = ms;
       room = rs;
     }
+
+-- types and cells that the code has at hand are those of a group: as long as a shape makes them
+abbrev pub OfGroup : Shape → Cells → Type 0
+OfGroup shape c = (length c.marks.now ≡ 10 * packets_of shape) × (length c.room.now ≡ room_of shape * packets_of shape)
+
+-- and its parts are
+abbrev pub Spanning : Shape → Group → Type 0
+Spanning shape g = Spans shape g.held.now g.cells.marks.now g.cells.room.now
+
+-- and the holding of them
+abbrev pub group_of : ℕ → GroupNumbers → Group → Holding
+group_of source numbers g = holding_of source numbers g.held.now g.cells.marks.now g.cells.room.now
+
+-- no numbers
+abbrev pub no_numbers : GroupNumbers
+no_numbers = record { sequence = 0; timestamp = 0; l = 0; b = 0 }
 
 -- a group of which no packet is held yet
 unfoldable pub begun : Shape → ℕ → GroupNumbers → Holding
 begun shape source g =
     record {
       source = source;
-      sequence = g.sequence;
-      timestamp = g.timestamp;
-      l = g.l;
-      b = g.b;
+      numbers = g;
       held = replicate (packets_of shape) false;
       marks = replicate (10 * packets_of shape) erasure;
       room = replicate (room_of shape * packets_of shape) 0;
     }
 
 -- the numbers of its group: "base sequence number, base timestamp, L, B"
-unfoldable pub numbers_of : Holding → GroupNumbers
-numbers_of h = record { sequence = h.sequence; timestamp = h.timestamp; l = h.l; b = h.b }
+abbrev pub numbers_of : Holding → GroupNumbers
+numbers_of h = h.numbers
 
 -- nothing held
 unfoldable pub nothing : Shape → Holding
-nothing shape = begun shape 0 (record { sequence = 0; timestamp = 0; l = 0; b = 0 })
+nothing shape = begun shape 0 no_numbers
 
 -- no packet is held, every place reads as an erasure, and all room is zero
 unfoldable pub bare : Shape → Holding → Bool
@@ -67,7 +80,7 @@ bare shape h = not (any_set h.held) && (same_octets h.marks (nothing shape).mark
 -- a holding is that of nothing, as a test
 unfoldable pub is_nothing : Shape → Holding → Bool
 is_nothing shape h =
-    eqb h.source 0 && (eqb h.sequence 0 && (eqb h.timestamp 0 && (eqb h.l 0 && (eqb h.b 0 && bare shape h))))
+    eqb h.source 0 && (same_numbers h.numbers no_numbers && bare shape h)
 
 -- whether packet n is held
 unfoldable pub held_at : Holding → ℕ → Bool
@@ -86,10 +99,7 @@ unfoldable pub with_packet : Shape → Holding → ℕ → Bundle → Holding
 with_packet shape h n p =
     record {
       source = h.source;
-      sequence = h.sequence;
-      timestamp = h.timestamp;
-      l = h.l;
-      b = h.b;
+      numbers = h.numbers;
       held = set h.held n true;
       marks = over h.marks (10 * n) p.marks;
       room = over h.room (room_of shape * n) p.room;
@@ -113,11 +123,15 @@ right_in v l b hs ms rs n = packet_right v l b n (get_or hs n false) (bundle_of 
 
 -- packet n of a holding keeps the rule
 abbrev pub right_at : Voice → Holding → ℕ → Bool
-right_at v h n = right_in v h.l h.b h.held h.marks h.room n
+right_at v h n = right_in v h.numbers.l h.numbers.b h.held h.marks h.room n
+
+-- packet n of a group of these numbers, of parts that the code has at hand
+abbrev pub right_of : Voice → GroupNumbers → Group → ℕ → Bool
+right_of v g p = right_in v g.l g.b p.held.now p.cells.marks.now p.cells.room.now
 
 -- what breaks it: "L above 7, B not 1 to 10", and a packet that breaks the rule
 unfoldable pub sound : Voice → Holding → Bool
-sound v h = leb h.l v.shape.greatest && leb 1 h.b && leb h.b 10 && all_below (right_at v h) (packets_of v.shape)
+sound v h = leb h.numbers.l v.shape.greatest && leb 1 h.numbers.b && leb h.numbers.b 10 && all_below (right_at v h) (packets_of v.shape)
 
 -- "A holding that breaks this .. counts as holding no packet."
 unfoldable pub holds : Voice → Holding → Bool

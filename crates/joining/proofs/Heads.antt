@@ -14,14 +14,14 @@ use Rattle.joining.specs.Joining.{same_group, take_one, take_below}
 -- the numbers of a holding, apart from its packets
 pub record SameHead (x y : Holding) : Type 0 where
   pub source : x.source ≡ y.source
-  pub sequence : x.sequence ≡ y.sequence
-  pub timestamp : x.timestamp ≡ y.timestamp
-  pub l : x.l ≡ y.l
-  pub b : x.b ≡ y.b
+  pub sequence : x.numbers.sequence ≡ y.numbers.sequence
+  pub timestamp : x.numbers.timestamp ≡ y.numbers.timestamp
+  pub l : x.numbers.l ≡ y.numbers.l
+  pub b : x.numbers.b ≡ y.numbers.b
 
 pub same-fields : {s s' q q' t t' l l' b b' : ℕ} {h h' : List Bool} {m m' r r' : List ℕ} → s ≡ s' → q ≡ q' → t ≡ t' → l ≡ l' → b ≡ b' → h ≡ h' → m ≡ m' → r ≡ r'
-    → ◌≡◌ {A = Holding} (record { source = s; sequence = q; timestamp = t; l = l; b = b; held = h; marks = m; room = r })
-    (record { source = s'; sequence = q'; timestamp = t'; l = l'; b = b'; held = h'; marks = m'; room = r' })
+    → ◌≡◌ {A = Holding} (record { source = s; numbers = record { sequence = q; timestamp = t; l = l; b = b }; held = h; marks = m; room = r })
+    (record { source = s'; numbers = record { sequence = q'; timestamp = t'; l = l'; b = b' }; held = h'; marks = m'; room = r' })
 same-fields p1 p2 p3 p4 p5 p6 p7 p8 = cc
 
 one-head : (v : Shape) (a b : Holding) (n : ℕ) → SameHead (take_one v a b n) a
@@ -50,20 +50,20 @@ pub group-head : (a b : Holding) → same_group a b ≡ true → SameHead a b
 unfolding same_group
 group-head a b e =
     let t1 = eqb a.source b.source in
-    let t2 = eqb a.sequence b.sequence in
-    let t3 = eqb a.timestamp b.timestamp in
-    let t4 = eqb a.l b.l in
-    let t5 = eqb a.b b.b in
-    let p5 = both_true (t1 && t2 && t3 && t4) t5 e in
-    let p4 = both_true (t1 && t2 && t3) t4 p5.0 in
-    let p3 = both_true (t1 && t2) t3 p4.0 in
-    let p2 = both_true t1 t2 p3.0 in
+    let t2 = eqb a.numbers.sequence b.numbers.sequence in
+    let t3 = eqb a.numbers.timestamp b.numbers.timestamp in
+    let t4 = eqb a.numbers.l b.numbers.l in
+    let t5 = eqb a.numbers.b b.numbers.b in
+    let p1 = both_true t1 (t2 && (t3 && (t4 && t5))) e in
+    let p2 = both_true t2 (t3 && (t4 && t5)) p1.1 in
+    let p3 = both_true t3 (t4 && t5) p2.1 in
+    let p4 = both_true t4 t5 p3.1 in
     record {
-      source = eqb-true _ _ p2.0;
-      sequence = eqb-true _ _ p2.1;
-      timestamp = eqb-true _ _ p3.1;
-      l = eqb-true _ _ p4.1;
-      b = eqb-true _ _ p5.1;
+      source = eqb-true _ _ p1.0;
+      sequence = eqb-true _ _ p2.0;
+      timestamp = eqb-true _ _ p3.0;
+      l = eqb-true _ _ p4.0;
+      b = eqb-true _ _ p4.1;
     }
 
 pub head-group : (a b : Holding) → SameHead a b → same_group a b ≡ true

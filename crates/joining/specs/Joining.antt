@@ -1,21 +1,21 @@
 -- Document 01, "Session": "Joining two holdings", over any shape and frame table.
-use Rattle.std.specs.Prelude.{ℕ, zero, suc, Bool, true, false, cond, ◌&&◌, List, get_or, eqb}
+use Rattle.std.specs.Prelude.{ℕ, zero, suc, Bool, true, false, cond, ◌&&◌, List, get_or, eqb, Result, Ok, Err}
 use Rattle.frame.specs.Shape.{Shape, Voice, packets_of}
 use Rattle.answers.specs.declared.Refusal.{Refusal}
 use Rattle.answers.specs.declared.Refusal.TheVariants.{PacketDiffers, NotSameGroup, NotApplicable}
-use Rattle.holding.specs.Group.{nothing, held_at, bundle_of, bundle_at, with_packet, holds}
+use Rattle.numbers.specs.Bases.{same_numbers}
+use Rattle.holding.specs.Group.{no_numbers, nothing, held_at, bundle_of, bundle_at, with_packet, holds}
 use Rattle.bundle.specs.Bundles.{same_bundles}
 use Rattle.octets.specs.Octets.{all_below}
 use Rattle.holding.specs.declared.Holding.{Holding}
+use Rattle.holding.specs.declared.Group.{Group}
 use Rattle.bundle.specs.declared.Bundle.{Bundle}
-use Rattle.answers.specs.declared.Answer.TheVariants.{Done, Refused}
-use Rattle.joining.specs.declared.Joined.{Joined}
+use Rattle.answers.specs.Outputs.{giving}
 
 -- "source, bases, L or B" are the same
 unfoldable pub same_group : Holding → Holding → Bool
 same_group a b =
-    eqb a.source b.source && eqb a.sequence b.sequence && eqb a.timestamp b.timestamp && eqb a.l b.l &&
-    eqb a.b b.b
+    eqb a.source b.source && same_numbers a.numbers b.numbers
 
 -- "a packet held in both" does not differ
 unfoldable pub meets : Bool → Bundle → Bool → Bundle → Bool
@@ -24,6 +24,10 @@ meets h p h' q = cond h (cond h' (same_bundles p q) true) true
 -- packet n does not differ in two groups of these flags, types and cells
 unfoldable pub agree_in : Shape → List Bool → List ℕ → List ℕ → List Bool → List ℕ → List ℕ → ℕ → Bool
 agree_in shape hs ms rs hs' ms' rs' n = meets (get_or hs n false) (bundle_of shape ms rs n) (get_or hs' n false) (bundle_of shape ms' rs' n)
+
+-- nor in two groups whose parts the code has at hand
+abbrev pub agree_of : Shape → Group → Group → ℕ → Bool
+agree_of shape a b = agree_in shape a.held.now a.cells.marks.now a.cells.room.now b.held.now b.cells.marks.now b.cells.room.now
 
 -- packet n does not differ in two holdings
 abbrev pub agree_at : Shape → Holding → Holding → ℕ → Bool
@@ -48,17 +52,30 @@ either shape a b = take_below shape a b (packets_of shape)
 
 -- a group's flags, types and cells, whatever its numbers
 abbrev pub unnumbered : List Bool → List ℕ → List ℕ → Holding
-unnumbered hs ms rs = record { source = 0; sequence = 0; timestamp = 0; l = 0; b = 0; held = hs; marks = ms; room = rs }
+unnumbered hs ms rs = record { source = 0; numbers = no_numbers; held = hs; marks = ms; room = rs }
 
--- a refused joining carries a holding of nothing
+-- the same of parts that the code has at hand
+abbrev pub unnumbered_of : Group → Holding
+unnumbered_of g = unnumbered g.held.now g.cells.marks.now g.cells.room.now
+
+-- the answer of a joining, and what it made
+pub record Joined : Type 0 where
+  pub answer : Result Unit Refusal
+  pub holding : Holding
+
+-- a refused joining makes a holding of nothing
 unfoldable pub refused_join : Shape → Refusal → Joined
-refused_join shape r = record { answer = Refused r; holding = nothing shape }
+refused_join shape r = record { answer = Err r; holding = nothing shape }
 
 -- "21 if either holds no packet; 20 if source, bases, L or B differ; 14 if a packet held in both differs; else every packet held in either"
 unfoldable pub join_of : Voice → Holding → Holding → Joined
 join_of v a b =
     cond (holds v a && holds v b)
     (cond (same_group a b)
-    (cond (agree v.shape a b) (record { answer = Done; holding = either v.shape a b }) (refused_join v.shape PacketDiffers))
+    (cond (agree v.shape a b) (record { answer = (Ok tt); holding = either v.shape a b }) (refused_join v.shape PacketDiffers))
     (refused_join v.shape NotSameGroup))
     (refused_join v.shape NotApplicable)
+
+-- what a joining gives: the holding that it made, or the refusal
+abbrev pub joined : Voice → Holding → Holding → Result Holding Refusal
+joined v a b = giving (join_of v a b).answer (join_of v a b).holding

@@ -1,4 +1,5 @@
 -- What joining makes of holdings of one group: the one holding that has every packet of any of them and no other. Assumes nothing.
+use Rattle.std.proofs.Common.{Ok}
 use Prim.Native.Nat.{ℕ, zero, suc, ◌<◌}
 use mathlib.Core.Bool.{Bool, true, false, cond, ◌&&◌}
 use mathlib.Core.Path.{◌≡◌, refl, sym, ap, ap₂, subst, ◌∙◌}
@@ -16,7 +17,6 @@ use Rattle.bundle.specs.Bundles.{not_held, same_bundles, frames_right}
 use Rattle.joining.specs.Joining.{meets, agree_in, agree_at, agree, either, refused_join, join_of}
 use Rattle.holding.specs.declared.Holding.{Holding}
 use Rattle.bundle.specs.declared.Bundle.{Bundle}
-use Rattle.answers.specs.declared.Answer.TheVariants.{Done}
 use Rattle.holding.proofs.GroupLaws.{Sound, sound-has, has-sound, holds-sound}
 use Rattle.octets.proofs.Below.{all-at, all-intro, all-fails}
 use Rattle.joining.proofs.Heads.{SameHead, take_head, head-group, head-sym, head-refl, head-trans}
@@ -47,7 +47,7 @@ cell_right v l b n x = packet_right v l b n x.0 x.1
 pub box-sound : (v : Voice) (h : Holding) → Box v h → Sound v h
 box-sound v h x = sound-has v h (holds-sound v h x.some).0
 
-box-cell : (v : Voice) (h : Holding) → Box v h → (n : ℕ) → n < packets_of v.shape → cell_right v h.l h.b n (cell v.shape h n) ≡ true
+box-cell : (v : Voice) (h : Holding) → Box v h → (n : ℕ) → n < packets_of v.shape → cell_right v h.numbers.l h.numbers.b n (cell v.shape h n) ≡ true
 unfolding cell right_in held_at
 box-cell v h x n k = all-at (right_at v h) (packets_of v.shape) n (box-sound v h x).packets k
 
@@ -59,16 +59,16 @@ cell-blank v l b n (false, p) e f = packets-true p (not_held v.shape) e
 -- a packet that is not held reads as erasures
 pub box-blank : (v : Voice) (h : Holding) → Box v h → (n : ℕ) → n < packets_of v.shape → held_at h n ≡ false → bundle_at v.shape h n ≡ not_held v.shape
 unfolding cell
-box-blank v h x n k e = cell-blank v h.l h.b n (cell v.shape h n) (box-cell v h x n k) e
+box-blank v h x n k e = cell-blank v h.numbers.l h.numbers.b n (cell v.shape h n) (box-cell v h x n k) e
 
 -- one that is held is none above L, and its frames keep the rule
-pub right-held : (v : Voice) (h : Holding) → Box v h → (n : ℕ) → n < packets_of v.shape → held_at h n ≡ true → (leb n h.l ≡ true) × (frames_right v h.b (bundle_at v.shape h n) ≡ true)
+pub right-held : (v : Voice) (h : Holding) → Box v h → (n : ℕ) → n < packets_of v.shape → held_at h n ≡ true → (leb n h.numbers.l ≡ true) × (frames_right v h.numbers.b (bundle_at v.shape h n) ≡ true)
 unfolding cell packet_right
-right-held v h x n k e = both_true (leb n h.l) (frames_right v h.b (bundle_at v.shape h n)) (go (held_at h n) e (box-cell v h x n k))
+right-held v h x n k e = both_true (leb n h.numbers.l) (frames_right v h.numbers.b (bundle_at v.shape h n)) (go (held_at h n) e (box-cell v h x n k))
   where
     go : (t : Bool) → t ≡ true
-        → cond t (leb n h.l && frames_right v h.b (bundle_at v.shape h n)) (same_bundles (bundle_at v.shape h n) (not_held v.shape)) ≡ true
-        → leb n h.l && frames_right v h.b (bundle_at v.shape h n) ≡ true
+        → cond t (leb n h.numbers.l && frames_right v h.numbers.b (bundle_at v.shape h n)) (same_bundles (bundle_at v.shape h n) (not_held v.shape)) ≡ true
+        → leb n h.numbers.l && frames_right v h.numbers.b (bundle_at v.shape h n) ≡ true
     go true p q = q
     go false p q = apart (cc)
 
@@ -89,7 +89,7 @@ any-more (true ∷ s) (y ∷ t) e h f = let g : y ≡ true = h 0 (omega arith) r
 any-more (false ∷ s) (true ∷ t) e h f = refl
 any-more (false ∷ s) (false ∷ t) e h f = any-more s t (omega arith) (λ n k. h (suc n) (omega arith)) f
 
-right-cell : (v : Voice) (h : Holding) (n : ℕ) → right_at v h n ≡ cell_right v h.l h.b n (cell v.shape h n)
+right-cell : (v : Voice) (h : Holding) (n : ℕ) → right_at v h n ≡ cell_right v h.numbers.l h.numbers.b n (cell v.shape h n)
 unfolding right_in held_at cell
 right-cell v h n = refl
 
@@ -105,12 +105,13 @@ module _ (v : Voice) (a b : Holding) (x : Box v a) (y : Box v b) (g : SameHead a
 
   either-right : (n : ℕ) → n < packets_of v.shape → right_at v (either v.shape a b) n ≡ true
   either-right n k =
-      let e : cell_right v a.l a.b n (cell v.shape a n) ≡ true = box-cell v a x n k in
-      let f : cell_right v a.l a.b n (cell v.shape b n) ≡ true = rw (g.l, g.b) (box-cell v b y n k) in
-      let m : cell_right v a.l a.b n (cell v.shape (either v.shape a b) n) ≡ true = rw (either-cell n k) (mix-right v a.l a.b n (cell v.shape a n) (cell v.shape b n) e f) in
+      let e : cell_right v a.numbers.l a.numbers.b n (cell v.shape a n) ≡ true = box-cell v a x n k in
+      let f : cell_right v a.numbers.l a.numbers.b n (cell v.shape b n) ≡ true = rw (g.l, g.b) (box-cell v b y n k) in
+      let m : cell_right v a.numbers.l a.numbers.b n (cell v.shape (either v.shape a b) n) ≡ true =
+      rw (either-cell n k) (mix-right v a.numbers.l a.numbers.b n (cell v.shape a n) (cell v.shape b n) e f) in
       right-cell v (either v.shape a b) n
-      ∙ ap (λ (z : ℕ). cell_right v z (either v.shape a b).b n (cell v.shape (either v.shape a b) n)) either-head.l
-      ∙ ap (λ (z : ℕ). cell_right v a.l z n (cell v.shape (either v.shape a b) n)) either-head.b
+      ∙ ap (λ (z : ℕ). cell_right v z (either v.shape a b).numbers.b n (cell v.shape (either v.shape a b) n)) either-head.l
+      ∙ ap (λ (z : ℕ). cell_right v a.numbers.l z n (cell v.shape (either v.shape a b) n)) either-head.b
       ∙ m
 
   either-sound : sound v (either v.shape a b) ≡ true
@@ -137,7 +138,7 @@ module _ (v : Voice) (a b : Holding) (x : Box v a) (y : Box v b) (g : SameHead a
   either-box = record { shaped = either-shaped; some = rw (either-sound, either-any) }
 
   -- what joining answers of two boxes of one group
-  pub join_is : join_of v a b ≡ cond (agree v.shape a b) (record { answer = Done; holding = either v.shape a b }) (refused_join v.shape PacketDiffers)
+  pub join_is : join_of v a b ≡ cond (agree v.shape a b) (record { answer = (Ok tt); holding = either v.shape a b }) (refused_join v.shape PacketDiffers)
   unfolding join_of
   join_is = rw (x.some, y.some, head-group a b g)
 

@@ -39,13 +39,13 @@ module _ (v : Voice) (w : T (within v.shape.cell v.table)) (z : T (erases v.tabl
   unheld-small h kh n k p q e =
       let b = bundle_at v.shape h n in
       let r = all-at (right_at v h) (packets_of v.shape) n (sound-has v h kh.rule).packets p in
-      let s : b ≡ not_held v.shape = packets-true b (not_held v.shape) (packet-lost v h.l h.b n (held_at h n) b e ∙ r) in
+      let s : b ≡ not_held v.shape = packets-true b (not_held v.shape) (packet-lost v h.numbers.l h.numbers.b n (held_at h n) b e ∙ r) in
       ap (λ (x : Bundle). size v.table (mark_at x k)) s ∙ ap (size v.table) (get_or-replicate 10 k erasure 0 q) ∙ (erasure-listed v.table z).1
 
-  pours-long : (h : Holding) → Keeps v h → length (entries_of (in_time v h)) ≡ rows_size v.table h.marks (h.l + 1) h.b
+  pours-long : (h : Holding) → Keeps v h → length (entries_of (in_time v h)) ≡ rows_size v.table h.marks (h.numbers.l + 1) h.numbers.b
   pours-long h kh =
       let s = sound-has v h kh.rule in
-      length-rows v w h.marks h.room kh.shaped.long_room (h.l + 1) h.b (omega (arith, s.low)) s.few
+      length-rows v w h.marks h.room kh.shaped.long_room (h.numbers.l + 1) h.numbers.b (omega (arith, s.low)) s.few
 
   -- a group of which no packet is held yet
   pub begun-pours : (source : ℕ) (g : GroupNumbers) → g.l ≤ v.shape.greatest → 1 ≤ g.b → g.b ≤ 10 → length (entries_of (in_time v (begun v.shape source g))) ≡ g.b * (g.l + 1)
@@ -57,7 +57,7 @@ module _ (v : Voice) (w : T (within v.shape.cell v.table)) (z : T (erases v.tabl
       ∙ rows-places v.table h.marks (g.l + 1) (λ n m p q. unheld-small h kh n m (omega arith) q (begun-lost v source g n (omega arith))) g.b k
 
   -- a packet put in that was not held
-  module _ (h : Holding) (kh : Keeps v h) (n : ℕ) (le : n ≤ h.l) (fs : List Frame) (many : length fs ≡ h.b) (a : AllListed v.table fs) where
+  module _ (h : Holding) (kh : Keeps v h) (n : ℕ) (le : n ≤ h.numbers.l) (fs : List Frame) (many : length fs ≡ h.numbers.b) (a : AllListed v.table fs) where
     pub put-pours : held_at h n ≡ false
         → length (entries_of (in_time v (with_packet v.shape h n (laid v.shape fs)))) ≡ length (entries_of (in_time v h)) + taken 0 fs
     put-pours e =
@@ -75,8 +75,8 @@ module _ (v : Voice) (w : T (within v.shape.cell v.table)) (z : T (erases v.tabl
         let other : (j k : ℕ) → (j ≡ n → ⊥) → type_in put.marks j k ≡ type_in h.marks j k =
         λ j k d. type-cell put j k _ (with-other v.shape h n p kh.shaped sized below j d) ∙ sym (type-cell h j k _ refl) in
         let grown =
-        rows_grow v.table h.marks put.marks n other (λ k q. unheld-small h kh n k below q e) (h.l + 1) h.b (omega arith) s.few in
-        let bodies : sum_below (λ k. size v.table (type_in put.marks n k)) h.b ≡ taken 0 fs =
+        rows_grow v.table h.marks put.marks n other (λ k q. unheld-small h kh n k below q e) (h.numbers.l + 1) h.numbers.b (omega arith) s.few in
+        let bodies : sum_below (λ k. size v.table (type_in put.marks n k)) h.numbers.b ≡ taken 0 fs =
         ap (sum_below (λ k. size v.table (type_in put.marks n k))) (sym many) ∙ sum-taken v.table fs a (λ k. size v.table (type_in put.marks n k)) here in
         pours-long put (record { shaped = x.shaped; rule = (holds-sound v put x.some).0 })
         ∙ ap₂ (λ (l b : ℕ). rows_size v.table put.marks (l + 1) b) hd.l hd.b

@@ -70,19 +70,19 @@ pub with-head : (u : Shape) (h : Holding) (n : ℕ) (p : Bundle) → SameHead (w
 unfolding with_packet
 with-head u h n p = record { source = refl; sequence = refl; timestamp = refl; l = refl; b = refl }
 
-right-at-cell : (v : Voice) (g h : Holding) (m : ℕ) → g.l ≡ h.l → g.b ≡ h.b → cell v.shape g m ≡ cell v.shape h m → right_at v g m ≡ right_at v h m
+right-at-cell : (v : Voice) (g h : Holding) (m : ℕ) → g.numbers.l ≡ h.numbers.l → g.numbers.b ≡ h.numbers.b → cell v.shape g m ≡ cell v.shape h m → right_at v g m ≡ right_at v h m
 unfolding right_in held_at cell
 right-at-cell v g h m e f q =
-    ap₂ (λ (l b : ℕ). packet_right v l b m (held_at g m) (bundle_at v.shape g m)) e f ∙ ap (λ (c : Cell). packet_right v h.l h.b m c.0 c.1) q
+    ap₂ (λ (l b : ℕ). packet_right v l b m (held_at g m) (bundle_at v.shape g m)) e f ∙ ap (λ (c : Cell). packet_right v h.numbers.l h.numbers.b m c.0 c.1) q
 
-right-put : (v : Voice) (g : Holding) (n : ℕ) (p : Bundle) → cell v.shape g n ≡ (true, p) → n ≤ g.l → frames_right v g.b p ≡ true → right_at v g n ≡ true
+right-put : (v : Voice) (g : Holding) (n : ℕ) (p : Bundle) → cell v.shape g n ≡ (true, p) → n ≤ g.numbers.l → frames_right v g.numbers.b p ≡ true → right_at v g n ≡ true
 unfolding right_in held_at cell packet_right
 right-put v g n p q le r =
-    ap (λ (c : Cell). packet_right v g.l g.b n c.0 c.1) q ∙ rw (le-leb n g.l le, r)
+    ap (λ (c : Cell). packet_right v g.numbers.l g.numbers.b n c.0 c.1) q ∙ rw (le-leb n g.numbers.l le, r)
 
 module _
-    (v : Voice) (w : T (within v.shape.cell v.table)) (z : T (erases v.table)) (h : Holding) (kh : Keeps v h) (n : ℕ) (le : n ≤ h.l)
-    (fs : List Frame) (many : length fs ≡ h.b) (a : AllListed v.table fs) where
+    (v : Voice) (w : T (within v.shape.cell v.table)) (z : T (erases v.table)) (h : Holding) (kh : Keeps v h) (n : ℕ) (le : n ≤ h.numbers.l)
+    (fs : List Frame) (many : length fs ≡ h.numbers.b) (a : AllListed v.table fs) where
   rule : Sound v h
   rule = sound-has v h kh.rule
 
@@ -110,7 +110,7 @@ module _
       hd : SameHead put h
       hd = with-head v.shape h n (laid v.shape fs)
 
-      frames : frames_right v put.b (laid v.shape fs) ≡ true
+      frames : frames_right v put.numbers.b (laid v.shape fs) ≡ true
       frames = rw hd.b (subst (λ (b : ℕ). frames_right v b (laid v.shape fs) ≡ true) many (laid-right v w z fs few a))
 
       go : (t : Bool) → eqb m n ≡ t → right_at v put m ≡ true

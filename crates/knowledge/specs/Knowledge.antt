@@ -29,7 +29,7 @@ told v b held p = cond held (record { held = true; frames = up_to (frame_of v p)
 
 -- what a holding knows of packet n
 unfoldable pub known_of : Voice → Holding → ℕ → Known
-known_of v h n = told v h.b (held_at h n) (bundle_at v.shape h n)
+known_of v h n = told v h.numbers.b (held_at h n) (bundle_at v.shape h n)
 
 -- frame k of what is known of a packet: "a place not held reads as an erasure"
 abbrev pub frame_known : Known → ℕ → Frame

@@ -14,76 +14,67 @@ ghost use Rattle.lending.specs.Calls.{join_answer, join_octets, pour_held, drop_
 ghost use Rattle.payload.specs.Shown.{contents_of};
 ghost use Rattle.recording.specs.Recording.{recording_read, recording_made};
 ghost use Rattle.recording.specs.Shown.{given_in};
-ghost use Rattle.landing.specs.Host.{contents_place, located_place, counted_place, written_place, taken_place, told_place, place_after};
-ghost use Rattle.landing.specs.Host.{named_form, read_named, given_named, packet_told, packet_after, frame_told, frame_after, told_after};
-ghost use Rattle.landing.specs.Host.{count_told, count_after, written_after, write_told, write_after, packet_named};
-ghost use Rattle.landing.specs.Host.{header_free_named, outcome_after, record_after, answer_number, taken_after, open_named};
-ghost use Rattle.landing.specs.Host.{opened_named, holding_told, holding_after, lost_after};
+ghost use Rattle.landing.specs.Host.{fault_place, capture_place, place_after};
+ghost use Rattle.landing.specs.Host.{named_form, read_named, given_named, packet_told, packet_after, frame_told, frame_after};
+ghost use Rattle.landing.specs.Host.{count_told, count_after, write_told, write_after, packet_named};
+ghost use Rattle.landing.specs.Host.{header_free_named, capture_after, record_after, answer_number, open_named};
+ghost use Rattle.landing.specs.Host.{opened_named, holding_told, holding_after};
 
-use answers::{Answer, Place, Refusal, Written};
-use capture::{Outcome, Told};
-use entries::Counted;
+use answers::Refusal;
+use capture::CaptureError;
 use form::{Form, Limits};
 use frame::{Located, Vocoder};
-use holding::{Described, Lost};
 use payload::Contents;
-use session::Taken;
 
-// The agreed form that a host names by a number and two maxima, or the refusal.
-#[derive(Clone, Copy)]
-pub enum Named {
-    Agreed(Form),
-    Refused(Refusal),
-}
+// The C interface hands in numbers, for a form and its maxima too, and out-parameters one by one.
 
 // The agreed form that a host's numbers name, or none: 21.
-fn form_named(form: u8, max_l: u8, max_b: u8) -> Named
+#[tactic(auto, unfolding(crate::specs::Host::named_form))]
+fn form_named(form: u8, max_l: u8, max_b: u8) -> Result<Form, Refusal>
     ensures { result ≡ named_form form max_l max_b }
 {
     match form {
-        0 => Named::Agreed(Form::HeaderFree),
-        1 => Named::Agreed(Form::Interleaved(Limits { max_l, max_b })),
-        _ => Named::Refused(Refusal::NotApplicable),
+        0 => Ok(Form::HeaderFree),
+        1 => Ok(Form::Interleaved(Limits { max_l, max_b })),
+        _ => Err(Refusal::NotApplicable),
     }
 }
 
 // Tells a host of a refusal: its number, and its place where it has one.
+#[tactic(auto, unfolding(crate::specs::Host::place_after))]
 fn tell_refusal(reason: Refusal, place: &mut usize) -> u8
     ensures { (result ≡ number_of reason) × (place.new ≡ place_after (place_of reason) place.old) }
 {
-    let fault = reason.place();
-    match fault {
-        Place::Nowhere => reason.number(),
-        Place::Octet(at) => {
-            *place = at;
-            reason.number()
-        }
+    if let Some(at) = reason.place() {
+        *place = at;
     }
+    reason.number()
 }
 
 // A payload read in the form that is named; 21 if none is.
-fn read_named(form: u8, max_l: u8, max_b: u8, payload: &[u8]) -> Contents
+#[tactic(auto, unfolding(crate::specs::Host::read_named, payload::specs::Shown::contents_of))]
+fn read_named(form: u8, max_l: u8, max_b: u8, payload: &[u8]) -> Result<Contents, Refusal>
     ensures { result ≡ contents_of (read_named (named_form form max_l max_b) payload.now) }
 {
-    let named = form_named(form, max_l, max_b);
-    match named {
-        Named::Refused(r) => Contents::Refused(r),
-        Named::Agreed(agreed) => payload::read(agreed, payload),
-    }
+    payload::read(form_named(form, max_l, max_b)?, payload)
 }
 
 // Frame k of a payload in the form that is named; 21 if none is.
-fn locate_named(form: u8, max_l: u8, max_b: u8, payload: &[u8], k: usize) -> Located
+#[tactic(auto, unfolding(crate::specs::Host::given_named, frame::specs::Places::located_of))]
+fn locate_named(
+    form: u8,
+    max_l: u8,
+    max_b: u8,
+    payload: &[u8],
+    k: usize,
+) -> Result<Located, Refusal>
     ensures { result ≡ located_of (given_named (named_form form max_l max_b) payload.now) k }
 {
-    let named = form_named(form, max_l, max_b);
-    match named {
-        Named::Refused(r) => Located::Refused(r),
-        Named::Agreed(agreed) => payload::locate(agreed, payload, k),
-    }
+    payload::locate(form_named(form, max_l, max_b)?, payload, k)
 }
 
 // Reads a payload: 0 and its L, N, B and D; or the refusal's number, and nothing written but its place.
+#[tactic(auto, unfolding(crate::specs::Host::packet_after, crate::specs::Host::fault_place, crate::specs::Host::place_after))]
 pub fn lv_payload_read(
     form: u8,
     max_l: u8,
@@ -98,29 +89,24 @@ pub fn lv_payload_read(
     ensures { (packet_told result l.new n.new b.new d.new
         ≡ packet_after (contents_of (read_named (named_form form max_l max_b) payload.now)) l.old n.old b.old d.old)
         × (place.new
-        ≡ place_after (contents_place (contents_of (read_named (named_form form max_l max_b) payload.now))) place.old) }
+        ≡ place_after (fault_place (contents_of (read_named (named_form form max_l max_b) payload.now))) place.old) }
 {
-    let held = read_named(form, max_l, max_b, payload);
-    match held {
-        Contents::Refused(r) => tell_refusal(r, place),
-        Contents::Packet {
-            l: got_l,
-            n: got_n,
-            b: got_b,
-            d: got_d,
-        } => {
-            *l = got_l;
-            *n = got_n;
-            *b = got_b;
-            *d = got_d;
+    match read_named(form, max_l, max_b, payload) {
+        Err(reason) => tell_refusal(reason, place),
+        Ok(packet) => {
+            *l = packet.l;
+            *n = packet.n;
+            *b = packet.b;
+            *d = packet.d;
             0
         }
     }
 }
 
 // Tells a host where a frame lies: 0, and its type, start and size; or the refusal's number, and nothing written but its place.
+#[tactic(auto, unfolding(crate::specs::Host::frame_after, crate::specs::Host::fault_place, crate::specs::Host::place_after))]
 fn tell_frame(
-    frame: Located,
+    frame: Result<Located, Refusal>,
     kind: &mut u8,
     start: &mut usize,
     size: &mut usize,
@@ -128,18 +114,14 @@ fn tell_frame(
 ) -> u8
     ensures { (frame_told result kind.new start.new size.new
         ≡ frame_after frame kind.old start.old size.old)
-        × (place.new ≡ place_after (located_place frame) place.old) }
+        × (place.new ≡ place_after (fault_place frame) place.old) }
 {
     match frame {
-        Located::Refused(r) => tell_refusal(r, place),
-        Located::At {
-            kind: got_kind,
-            start: got_start,
-            size: got_size,
-        } => {
-            *kind = got_kind;
-            *start = got_start;
-            *size = got_size;
+        Err(reason) => tell_refusal(reason, place),
+        Ok(at) => {
+            *kind = at.kind;
+            *start = at.start;
+            *size = at.size;
             0
         }
     }
@@ -160,7 +142,7 @@ pub fn lv_payload_frame(
     ensures { (frame_told result kind.new start.new size.new
         ≡ frame_after (located_of (given_named (named_form form max_l max_b) payload.now) k) kind.old start.old size.old)
         × (place.new
-        ≡ place_after (located_place (located_of (given_named (named_form form max_l max_b) payload.now) k)) place.old) }
+        ≡ place_after (fault_place (located_of (given_named (named_form form max_l max_b) payload.now) k)) place.old) }
 {
     tell_frame(
         locate_named(form, max_l, max_b, payload, k),
@@ -171,21 +153,40 @@ pub fn lv_payload_frame(
     )
 }
 
+// Tells a host a count, of frames, of octets written or of lost frames: 0 and the count; or the refusal's number, and nothing written.
+#[tactic(auto, unfolding(crate::specs::Host::count_after))]
+fn tell_count(found: Result<usize, Refusal>, count: &mut usize) -> u8
+    ensures { count_told result count.new ≡ count_after found count.old }
+{
+    match found {
+        Err(reason) => reason.number(),
+        Ok(n) => {
+            *count = n;
+            0
+        }
+    }
+}
+
+// The same of a call whose refusal may have a place.
+#[tactic(auto, unfolding(crate::specs::Host::fault_place, crate::specs::Host::count_after, crate::specs::Host::place_after))]
+fn tell_count_at(found: Result<usize, Refusal>, count: &mut usize, place: &mut usize) -> u8
+    ensures { (count_told result count.new ≡ count_after found count.old)
+        × (place.new ≡ place_after (fault_place found) place.old) }
+{
+    if let Err(reason) = found {
+        return tell_refusal(reason, place);
+    }
+    tell_count(found, count)
+}
+
 // Reads a recording: 0 and its frame count; or the refusal's number, and nothing written but its place.
 pub fn lv_recording_read(recording: &[u8], count: &mut usize, place: &mut usize) -> u8
     ensures { (count_told result count.new
         ≡ count_after (counted_of (recording_read (kind_of Vocoder.Evrc) recording.now)) count.old)
         × (place.new
-        ≡ place_after (counted_place (counted_of (recording_read (kind_of Vocoder.Evrc) recording.now))) place.old) }
+        ≡ place_after (fault_place (counted_of (recording_read (kind_of Vocoder.Evrc) recording.now))) place.old) }
 {
-    let held = recording::read(Vocoder::Evrc, recording);
-    match held {
-        Counted::Refused(r) => tell_refusal(r, place),
-        Counted::Frames(n) => {
-            *count = n;
-            0
-        }
-    }
+    tell_count_at(recording::read(Vocoder::Evrc, recording), count, place)
 }
 
 // Frame k of a recording: its type, and its body's start and size in the recording.
@@ -200,40 +201,14 @@ pub fn lv_recording_frame(
     ensures { (frame_told result kind.new start.new size.new
         ≡ frame_after (located_of (given_in (kind_of Vocoder.Evrc) recording.now) k) kind.old start.old size.old)
         × (place.new
-        ≡ place_after (located_place (located_of (given_in (kind_of Vocoder.Evrc) recording.now) k)) place.old) }
+        ≡ place_after (fault_place (located_of (given_in (kind_of Vocoder.Evrc) recording.now) k)) place.old) }
 {
     let frame = recording::locate(Vocoder::Evrc, recording, k);
     tell_frame(frame, kind, start, size, place)
 }
 
-// Tells a host what was written: 0 and the octet count; or the refusal's number, and nothing written.
-fn tell_written(made: Written, written: &mut usize) -> u8
-    ensures { count_told result written.new ≡ written_after made written.old }
-{
-    match made {
-        Written::Refused(r) => r.number(),
-        Written::Octets(n) => {
-            *written = n;
-            0
-        }
-    }
-}
-
-// The same of a call that is given entries, whose refusal may have a place.
-fn tell_written_at(made: Written, written: &mut usize, place: &mut usize) -> u8
-    ensures { (count_told result written.new ≡ written_after made written.old)
-        × (place.new ≡ place_after (written_place made) place.old) }
-{
-    match made {
-        Written::Refused(r) => tell_refusal(r, place),
-        Written::Octets(n) => {
-            *written = n;
-            0
-        }
-    }
-}
-
 // Writes a recording of entries.
+#[tactic(auto, unfolding(crate::specs::Host::write_after))]
 pub fn lv_recording_write(
     entries: &[u8],
     out: &mut [u8],
@@ -243,9 +218,9 @@ pub fn lv_recording_write(
     ensures { (write_told result written.new out.new
         ≡ write_after (recording_made (kind_of Vocoder.Evrc) entries.now) written.old out.old)
         × (place.new
-        ≡ place_after (written_place (written_of (recording_made (kind_of Vocoder.Evrc) entries.now) out.old)) place.old) }
+        ≡ place_after (fault_place (written_of (recording_made (kind_of Vocoder.Evrc) entries.now) out.old)) place.old) }
 {
-    tell_written_at(
+    tell_count_at(
         recording::write(Vocoder::Evrc, entries, out),
         written,
         place,
@@ -253,6 +228,7 @@ pub fn lv_recording_write(
 }
 
 // Packet N written in the form that is named; 21 if none is.
+#[tactic(auto, unfolding(crate::specs::Host::packet_named))]
 fn packet_named(
     form: u8,
     max_l: u8,
@@ -263,17 +239,14 @@ fn packet_named(
     d: u8,
     entries: &[u8],
     out: &mut [u8],
-) -> Written
+) -> Result<usize, Refusal>
     ensures { Writes (packet_named (named_form form max_l max_b) l n b d entries.now) out.old result out.new }
 {
-    let named = form_named(form, max_l, max_b);
-    match named {
-        Named::Refused(r) => Written::Refused(r),
-        Named::Agreed(agreed) => packet::write(agreed, l, n, b, d, entries, out),
-    }
+    packet::write(form_named(form, max_l, max_b)?, l, n, b, d, entries, out)
 }
 
 // Writes packet n of an interleave group.
+#[tactic(auto, unfolding(crate::specs::Host::write_after))]
 pub fn lv_packet_write(
     form: u8,
     max_l: u8,
@@ -290,9 +263,9 @@ pub fn lv_packet_write(
     ensures { (write_told result written.new out.new
         ≡ write_after (packet_named (named_form form max_l max_b) l n b d entries.now) written.old out.old)
         × (place.new
-        ≡ place_after (written_place (written_of (packet_named (named_form form max_l max_b) l n b d entries.now) out.old)) place.old) }
+        ≡ place_after (fault_place (written_of (packet_named (named_form form max_l max_b) l n b d entries.now) out.old)) place.old) }
 {
-    tell_written_at(
+    tell_count_at(
         packet_named(form, max_l, max_b, l, n, b, d, entries, out),
         written,
         place,
@@ -300,17 +273,21 @@ pub fn lv_packet_write(
 }
 
 // A header-free packet written in the form that is named; 21 if none is.
-fn header_free_named(form: u8, max_l: u8, max_b: u8, entries: &[u8], out: &mut [u8]) -> Written
+#[tactic(auto, unfolding(crate::specs::Host::header_free_named))]
+fn header_free_named(
+    form: u8,
+    max_l: u8,
+    max_b: u8,
+    entries: &[u8],
+    out: &mut [u8],
+) -> Result<usize, Refusal>
     ensures { Writes (header_free_named (named_form form max_l max_b) entries.now) out.old result out.new }
 {
-    let named = form_named(form, max_l, max_b);
-    match named {
-        Named::Refused(r) => Written::Refused(r),
-        Named::Agreed(agreed) => packet::write_header_free(agreed, entries, out),
-    }
+    packet::write_header_free(form_named(form, max_l, max_b)?, entries, out)
 }
 
 // Writes a header-free packet.
+#[tactic(auto, unfolding(crate::specs::Host::write_after))]
 pub fn lv_packet_write_header_free(
     form: u8,
     max_l: u8,
@@ -323,88 +300,78 @@ pub fn lv_packet_write_header_free(
     ensures { (write_told result written.new out.new
         ≡ write_after (header_free_named (named_form form max_l max_b) entries.now) written.old out.old)
         × (place.new
-        ≡ place_after (written_place (written_of (header_free_named (named_form form max_l max_b) entries.now) out.old)) place.old) }
+        ≡ place_after (fault_place (written_of (header_free_named (named_form form max_l max_b) entries.now) out.old)) place.old) }
 {
-    tell_written_at(
+    tell_count_at(
         header_free_named(form, max_l, max_b, entries, out),
         written,
         place,
     )
 }
 
-// What became of a capture, as a number: 0 and the octets written, the number of a refusal, or 255.
-fn tell_recorded(outcome: Outcome, written: &mut usize) -> u8
-    ensures { count_told result written.new ≡ outcome_after outcome written.old }
+// What a call on a capture answers, as a number: 0 and its count, the number of a refusal, or 255.
+#[tactic(auto, unfolding(crate::specs::Host::capture_after))]
+fn tell_capture(found: Result<usize, CaptureError>, count: &mut usize) -> u8
+    ensures { count_told result count.new ≡ capture_after found count.old }
 {
-    match outcome {
-        Outcome::BadCapture => 255,
-        Outcome::Recorded(made) => tell_written(made, written),
-    }
-}
-
-// Turns a capture into a recording; 255 for a bad capture.
-pub fn lv_capture_record(capture: &[u8], out: &mut [u8], written: &mut usize) -> u8
-    ensures { write_told result written.new out.new
-        ≡ record_after capture_kind capture.now written.old out.old }
-{
-    tell_recorded(capture::record(capture, out), written)
-}
-
-// ---- sessions and holdings, in octets that the host lends
-
-// An answer as a number: 0, or the number of the refusal.
-fn tell(answer: Answer) -> u8
-    ensures { result ≡ answer_number answer }
-{
-    match answer {
-        Answer::Done => 0,
-        Answer::Refused(reason) => reason.number(),
-    }
-}
-
-// The answer to an offer as a number: 0 and the lost frames, or the number of the refusal and its place.
-fn tell_taken(answer: Taken, lost: &mut usize, place: &mut usize) -> u8
-    ensures { (count_told result lost.new ≡ taken_after answer lost.old)
-        × (place.new ≡ place_after (taken_place answer) place.old) }
-{
-    match answer {
-        Taken::Refused(reason) => tell_refusal(reason, place),
-        Taken::Accepted(n) => {
-            *lost = n;
+    match found {
+        Err(CaptureError::BadCapture) => 255,
+        Err(CaptureError::Refused(reason)) => reason.number(),
+        Ok(n) => {
+            *count = n;
             0
         }
     }
 }
 
-// What a packet of a capture was answered, as a number; 255 where the capture is bad.
-fn tell_told(told: Told, lost: &mut usize, place: &mut usize) -> u8
-    ensures { (count_told result lost.new ≡ told_after told lost.old)
-        × (place.new ≡ place_after (told_place told) place.old) }
+// Turns a capture into a recording; 255 for a bad capture.
+#[tactic(auto, unfolding(crate::specs::Host::record_after))]
+pub fn lv_capture_record(capture: &[u8], out: &mut [u8], written: &mut usize) -> u8
+    ensures { write_told result written.new out.new
+        ≡ record_after capture_kind capture.now written.old out.old }
 {
-    match told {
-        Told::BadCapture => 255,
-        Told::Answered(answer) => tell_taken(answer, lost, place),
+    tell_capture(capture::record(capture, out), written)
+}
+
+// ---- sessions and holdings, in octets that the host lends
+
+// An answer as a number: 0, or the number of the refusal.
+#[tactic(auto, unfolding(crate::specs::Host::answer_number))]
+fn tell(answer: Result<(), Refusal>) -> u8
+    ensures { result ≡ answer_number answer }
+{
+    match answer {
+        Ok(()) => 0,
+        Err(reason) => reason.number(),
     }
 }
 
 // What packet i of a capture was answered in the run that lv_capture_record makes; 255 for a bad capture, 21 where there is none.
+#[tactic(auto, unfolding(crate::specs::Host::capture_after, crate::specs::Host::capture_place, crate::specs::Host::place_after))]
 pub fn lv_capture_answer(capture: &[u8], i: usize, lost: &mut usize, place: &mut usize) -> u8
-    ensures { (count_told result lost.new ≡ told_after (answer_of capture_kind capture.now i) lost.old)
-        × (place.new ≡ place_after (told_place (answer_of capture_kind capture.now i)) place.old) }
+    ensures { (count_told result lost.new ≡ capture_after (answer_of capture_kind capture.now i) lost.old)
+        × (place.new ≡ place_after (capture_place (answer_of capture_kind capture.now i)) place.old) }
 {
-    tell_told(capture::answer(capture, i), lost, place)
+    let found = capture::answer(capture, i);
+    if let Err(CaptureError::Refused(reason)) = found {
+        return tell_refusal(reason, place);
+    }
+    tell_capture(found, lost)
 }
 
 // A lent session opened in the form that is named: 21 for no form, before 15 for too few octets.
-fn open_named(source: u32, form: u8, max_l: u8, max_b: u8, session: &mut [u8]) -> Answer
+#[tactic(auto, unfolding(crate::specs::Host::open_named, crate::specs::Host::opened_named))]
+fn open_named(
+    source: u32,
+    form: u8,
+    max_l: u8,
+    max_b: u8,
+    session: &mut [u8],
+) -> Result<(), Refusal>
     ensures { (result ≡ open_named (named_form form max_l max_b) source session.old)
         × (session.new ≡ opened_named (named_form form max_l max_b) source session.old) }
 {
-    let named = form_named(form, max_l, max_b);
-    match named {
-        Named::Agreed(agreed) => lending::open(session, source, agreed),
-        Named::Refused(reason) => Answer::Refused(reason),
-    }
+    lending::open(session, source, form_named(form, max_l, max_b)?)
 }
 
 // Opens a session.
@@ -426,12 +393,12 @@ pub fn lv_session_offer(
     place: &mut usize,
 ) -> u8
     ensures { (count_told result lost.new
-        ≡ taken_after (offer_answer (session_voice session.old) session.old source sequence timestamp payload.now) lost.old)
+        ≡ count_after (offer_answer (session_voice session.old) session.old source sequence timestamp payload.now) lost.old)
         × (place.new
-        ≡ place_after (taken_place (offer_answer (session_voice session.old) session.old source sequence timestamp payload.now)) place.old)
+        ≡ place_after (fault_place (offer_answer (session_voice session.old) session.old source sequence timestamp payload.now)) place.old)
         × (session.new ≡ offer_octets (session_voice session.old) session.old source sequence timestamp payload.now) }
 {
-    tell_taken(
+    tell_count_at(
         lending::offer(session, source, sequence, timestamp, payload),
         lost,
         place,
@@ -439,13 +406,14 @@ pub fn lv_session_offer(
 }
 
 // Pours the held group of a session, and ends it.
+#[tactic(auto, unfolding(crate::specs::Host::write_after))]
 pub fn lv_session_pour(session: &mut [u8], out: &mut [u8], written: &mut usize) -> u8
     ensures { (write_told result written.new out.new
         ≡ write_after (pour_of (session_voice session.old) session.old) written.old out.old)
         × (session.new
         ≡ pour_octets session.old (written_of (pour_of (session_voice session.old) session.old) out.old)) }
 {
-    tell_written(lending::pour(session, out), written)
+    tell_count(lending::pour(session, out), written)
 }
 
 // Copies the held group of a session out.
@@ -481,15 +449,17 @@ pub fn lv_holding_join(a: &[u8], b: &[u8], out: &mut [u8]) -> u8
 }
 
 // Pours a holding.
+#[tactic(auto, unfolding(crate::specs::Host::write_after))]
 pub fn lv_holding_pour(holding: &[u8], out: &mut [u8], written: &mut usize) -> u8
     ensures { write_told result written.new out.new
         ≡ write_after (pour_held (holding_voice holding.now) holding.now) written.old out.old }
 {
-    tell_written(lending::pour_holding(holding, out), written)
+    tell_count(lending::pour_holding(holding, out), written)
 }
 
 // What a holding is: 0, and its source, base numbers, L, B and which packets it holds, bit N for packet N; or the refusal's number,
 // and nothing written.
+#[tactic(auto, unfolding(crate::specs::Host::holding_after))]
 pub fn lv_holding_read(
     holding: &[u8],
     source: &mut u32,
@@ -503,20 +473,15 @@ pub fn lv_holding_read(
         ≡ holding_after (read_held (holding_voice holding.now) holding.now)
         source.old sequence.old timestamp.old l.old b.old held.old }
 {
-    let described = lending::read_holding(holding);
-    match described {
-        Described::Refused(reason) => reason.number(),
-        Described::Group {
-            source: got_source,
-            numbers,
-            held: got_held,
-        } => {
-            *source = got_source;
-            *sequence = numbers.sequence;
-            *timestamp = numbers.timestamp;
-            *l = numbers.l;
-            *b = numbers.b;
-            *held = got_held;
+    match lending::read_holding(holding) {
+        Err(reason) => reason.number(),
+        Ok(group) => {
+            *source = group.source;
+            *sequence = group.numbers.sequence;
+            *timestamp = group.numbers.timestamp;
+            *l = group.numbers.l;
+            *b = group.numbers.b;
+            *held = group.held;
             0
         }
     }
@@ -526,14 +491,7 @@ pub fn lv_holding_read(
 // written.
 pub fn lv_holding_lost(before: &[u8], after: &[u8], lost: &mut usize) -> u8
     ensures { count_told result lost.new
-        ≡ lost_after (lost_of (holding_voice before.now) before.now after.now) lost.old }
+        ≡ count_after (lost_of (holding_voice before.now) before.now after.now) lost.old }
 {
-    let found = lending::lost_between(before, after);
-    match found {
-        Lost::Refused(reason) => reason.number(),
-        Lost::Frames(frames) => {
-            *lost = frames;
-            0
-        }
-    }
+    tell_count(lending::lost_between(before, after), lost)
 }

@@ -1,5 +1,6 @@
 // The calls for a host in C (include/landing_voice.h), as C links them: each calls the function of crates/landing that has its name, and
-// promises what that promises, word for word (tools/claims holds the two to each other).
+// promises what that promises, word for word (tools/claims holds the two to each other). A crate is a library, as the claims need it, or
+// a static library, as C does: so the calls stand twice.
 #![tactic(auto)]
 
 ghost use Rattle.std.specs.Prelude.{◌≡◌};
@@ -14,11 +15,11 @@ ghost use Rattle.lending.specs.Calls.{join_answer, join_octets, pour_held, drop_
 ghost use Rattle.payload.specs.Shown.{contents_of};
 ghost use Rattle.recording.specs.Recording.{recording_read, recording_made};
 ghost use Rattle.recording.specs.Shown.{given_in};
-ghost use Rattle.landing.specs.Host.{contents_place, located_place, counted_place, written_place, taken_place, told_place, place_after};
-ghost use Rattle.landing.specs.Host.{named_form, read_named, given_named, packet_told, packet_after, frame_told, frame_after, told_after};
+ghost use Rattle.landing.specs.Host.{fault_place, capture_place, place_after};
+ghost use Rattle.landing.specs.Host.{named_form, read_named, given_named, packet_told, packet_after, frame_told, frame_after};
 ghost use Rattle.landing.specs.Host.{count_told, count_after, write_told, write_after, packet_named};
-ghost use Rattle.landing.specs.Host.{header_free_named, record_after, answer_number, taken_after, open_named};
-ghost use Rattle.landing.specs.Host.{opened_named, holding_told, holding_after, lost_after};
+ghost use Rattle.landing.specs.Host.{header_free_named, record_after, capture_after, answer_number, open_named};
+ghost use Rattle.landing.specs.Host.{opened_named, holding_told, holding_after};
 
 use frame::Vocoder;
 
@@ -38,7 +39,7 @@ pub extern "C" fn lv_payload_read(
     ensures { (packet_told result l.new n.new b.new d.new
         ≡ packet_after (contents_of (read_named (named_form form max_l max_b) payload.now)) l.old n.old b.old d.old)
         × (place.new
-        ≡ place_after (contents_place (contents_of (read_named (named_form form max_l max_b) payload.now))) place.old) }
+        ≡ place_after (fault_place (contents_of (read_named (named_form form max_l max_b) payload.now))) place.old) }
 {
     landing::lv_payload_read(form, max_l, max_b, payload, l, n, b, d, place)
 }
@@ -59,7 +60,7 @@ pub extern "C" fn lv_payload_frame(
     ensures { (frame_told result kind.new start.new size.new
         ≡ frame_after (located_of (given_named (named_form form max_l max_b) payload.now) k) kind.old start.old size.old)
         × (place.new
-        ≡ place_after (located_place (located_of (given_named (named_form form max_l max_b) payload.now) k)) place.old) }
+        ≡ place_after (fault_place (located_of (given_named (named_form form max_l max_b) payload.now) k)) place.old) }
 {
     landing::lv_payload_frame(form, max_l, max_b, payload, k, kind, start, size, place)
 }
@@ -70,7 +71,7 @@ pub extern "C" fn lv_recording_read(recording: &[u8], count: &mut usize, place: 
     ensures { (count_told result count.new
         ≡ count_after (counted_of (recording_read (kind_of Vocoder.Evrc) recording.now)) count.old)
         × (place.new
-        ≡ place_after (counted_place (counted_of (recording_read (kind_of Vocoder.Evrc) recording.now))) place.old) }
+        ≡ place_after (fault_place (counted_of (recording_read (kind_of Vocoder.Evrc) recording.now))) place.old) }
 {
     landing::lv_recording_read(recording, count, place)
 }
@@ -88,7 +89,7 @@ pub extern "C" fn lv_recording_frame(
     ensures { (frame_told result kind.new start.new size.new
         ≡ frame_after (located_of (given_in (kind_of Vocoder.Evrc) recording.now) k) kind.old start.old size.old)
         × (place.new
-        ≡ place_after (located_place (located_of (given_in (kind_of Vocoder.Evrc) recording.now) k)) place.old) }
+        ≡ place_after (fault_place (located_of (given_in (kind_of Vocoder.Evrc) recording.now) k)) place.old) }
 {
     landing::lv_recording_frame(recording, k, kind, start, size, place)
 }
@@ -104,7 +105,7 @@ pub extern "C" fn lv_recording_write(
     ensures { (write_told result written.new out.new
         ≡ write_after (recording_made (kind_of Vocoder.Evrc) entries.now) written.old out.old)
         × (place.new
-        ≡ place_after (written_place (written_of (recording_made (kind_of Vocoder.Evrc) entries.now) out.old)) place.old) }
+        ≡ place_after (fault_place (written_of (recording_made (kind_of Vocoder.Evrc) entries.now) out.old)) place.old) }
 {
     landing::lv_recording_write(entries, out, written, place)
 }
@@ -127,7 +128,7 @@ pub extern "C" fn lv_packet_write(
     ensures { (write_told result written.new out.new
         ≡ write_after (packet_named (named_form form max_l max_b) l n b d entries.now) written.old out.old)
         × (place.new
-        ≡ place_after (written_place (written_of (packet_named (named_form form max_l max_b) l n b d entries.now) out.old)) place.old) }
+        ≡ place_after (fault_place (written_of (packet_named (named_form form max_l max_b) l n b d entries.now) out.old)) place.old) }
 {
     landing::lv_packet_write(form, max_l, max_b, l, n, b, d, entries, out, written, place)
 }
@@ -146,7 +147,7 @@ pub extern "C" fn lv_packet_write_header_free(
     ensures { (write_told result written.new out.new
         ≡ write_after (header_free_named (named_form form max_l max_b) entries.now) written.old out.old)
         × (place.new
-        ≡ place_after (written_place (written_of (header_free_named (named_form form max_l max_b) entries.now) out.old)) place.old) }
+        ≡ place_after (fault_place (written_of (header_free_named (named_form form max_l max_b) entries.now) out.old)) place.old) }
 {
     landing::lv_packet_write_header_free(form, max_l, max_b, entries, out, written, place)
 }
@@ -168,8 +169,8 @@ pub extern "C" fn lv_capture_answer(
     lost: &mut usize,
     place: &mut usize,
 ) -> u8
-    ensures { (count_told result lost.new ≡ told_after (answer_of capture_kind capture.now i) lost.old)
-        × (place.new ≡ place_after (told_place (answer_of capture_kind capture.now i)) place.old) }
+    ensures { (count_told result lost.new ≡ capture_after (answer_of capture_kind capture.now i) lost.old)
+        × (place.new ≡ place_after (capture_place (answer_of capture_kind capture.now i)) place.old) }
 {
     landing::lv_capture_answer(capture, i, lost, place)
 }
@@ -201,9 +202,9 @@ pub extern "C" fn lv_session_offer(
     place: &mut usize,
 ) -> u8
     ensures { (count_told result lost.new
-        ≡ taken_after (offer_answer (session_voice session.old) session.old source sequence timestamp payload.now) lost.old)
+        ≡ count_after (offer_answer (session_voice session.old) session.old source sequence timestamp payload.now) lost.old)
         × (place.new
-        ≡ place_after (taken_place (offer_answer (session_voice session.old) session.old source sequence timestamp payload.now)) place.old)
+        ≡ place_after (fault_place (offer_answer (session_voice session.old) session.old source sequence timestamp payload.now)) place.old)
         × (session.new ≡ offer_octets (session_voice session.old) session.old source sequence timestamp payload.now) }
 {
     landing::lv_session_offer(session, source, sequence, timestamp, payload, lost, place)
@@ -289,7 +290,7 @@ pub extern "C" fn lv_holding_read(
 #[unsafe(no_mangle)]
 pub extern "C" fn lv_holding_lost(before: &[u8], after: &[u8], lost: &mut usize) -> u8
     ensures { count_told result lost.new
-        ≡ lost_after (lost_of (holding_voice before.now) before.now after.now) lost.old }
+        ≡ count_after (lost_of (holding_voice before.now) before.now after.now) lost.old }
 {
     landing::lv_holding_lost(before, after, lost)
 }

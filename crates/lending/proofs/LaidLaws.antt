@@ -1,25 +1,28 @@
 -- Laying out, piece behind piece, and reading, piece by piece. Assumes nothing.
-use Prim.Native.Nat.{ℕ, ◌+◌, ◌-◌, ◌≤◌, ◌<◌}
+use Rattle.std.specs.Prelude.{Option, Some, is_some}
+use Prim.Native.Nat.{ℕ, zero, suc, ◌+◌, ◌-◌, ◌≤◌, ◌<◌}
 use mathlib.Core.Bool.{Bool, true, false}
-use mathlib.Core.Path.{◌≡◌, sym, ap, ap₂, ◌∙◌}
-use mathlib.Core.List.{List, [], ◌∷◌, ◌++◌, map, append-nil}
-use native.Mathlib.Nat.{zero-add}
-use native.Mathlib.Numerals.{add-one}
+use mathlib.Core.Path.{◌≡◌, sym, ap, subst, ◌∙◌}
+use mathlib.Core.List.{List, [], ◌∷◌, ◌++◌, map}
 use native.Mathlib.Omega.{arith}
-use lib.Dec.{eqb}
-use lib.ListN.{length, take, drop, get_or, set, replicate, length-map, length-replicate, length-take, length-drop}
-use lib.Seq.{paste, paste-suc, take_all, get_or-take, get_or-drop}
+use denote.Param.Members.{Mut}
+use Rattle.std.specs.Fn.{Called}
+use Rattle.std.specs.Array.{IsFromFnResultFrom}
+use Rattle.std.proofs.Common.{⊎_elim, eq-or-lt_of_le}
+use Rattle.std.proofs.lemmas.List.{ext_get_or, get_or-map}
+use lib.ListN.{length, take, drop, get_or, set, replicate, length-map, length-take, length-drop}
+use lib.Seq.{get_or-take, get_or-drop}
 use borrow.Author.Tests.{le-leb, lt-leb, eq-eqb, ne_eqb, leb-true}
 use Rattle.octets.proofs.Logic.{both_true}
-use Rattle.octets.specs.Octets.{over, shifted, same_octets, two_at, four_at, two_octets, four_octets}
-use Rattle.octets.proofs.OctetsLaws.{over-append, over-whole, changed-at, set-three, part-is, length_two, length-four}
+use Rattle.octets.specs.Octets.{over, shifted, same_octets, two_octets, four_octets}
+use Rattle.octets.proofs.OctetsLaws.{over-append, over-whole, set-three, part-is, length_two, length-four}
 use Rattle.form.specs.declared.Limits.{Limits}
 use Rattle.form.specs.declared.Form.{Form}
 use Rattle.form.specs.declared.Form.TheVariants.{HeaderFree, Interleaved}
 use Rattle.frame.specs.Shape.{holding_shape}
-use Rattle.holding.specs.Group.{Shaped, nothing}
+use Rattle.holding.specs.Group.{Shaped}
 use Rattle.holding.specs.declared.Holding.{Holding}
-use Rattle.joining.proofs.Heads.{same-fields}
+use Rattle.numbers.specs.declared.GroupNumbers.{GroupNumbers}
 use Rattle.session.specs.declared.Session.{Session}
 use Rattle.lending.specs.Laid.{flag_octet, is_set, is_long, is_laid, number_octets, holding_octets, holding_at, is_holding}
 use Rattle.lending.specs.Laid.{holding_in, holding_laid, form_octets, form_at, last_octets, session_head}
@@ -32,33 +35,24 @@ pub lay-more : (d e f : List ℕ) (at n : ℕ) (xs ys : List ℕ) → at ≤ len
 lay-more d e f at n xs ys h p q r = r ∙ ap (λ (i : ℕ). over e i ys) q ∙ ap (λ (l : List ℕ). over l (at + length xs) ys) p ∙ over-append d at xs ys h
 
 -- ---- flags
--- the i-th of the eight
-pub flag-more : (o : List ℕ) (at i : ℕ) (flags : List Bool) → flags ≡ paste (replicate 8 false) 0 (map is_set (take 8 (drop at o))) i → at + 8 ≤ length o → i < 8
-    → set flags i (eqb (get_or o (at + i) 0) 1) ≡ paste (replicate 8 false) 0 (map is_set (take 8 (drop at o))) (i + 1)
-flag-more o at i flags e h k =
-    let w = take 8 (drop at o) in
-    let l : length w ≡ 8 = simp (length-take, length-drop) (omega arith) in
-    let m : i < length w = omega arith in
-    let g : get_or w i 0 ≡ get_or o (at + i) 0 = get_or-take 8 (drop at o) i 0 k ∙ get_or-drop at o i 0 in
-    let y : eqb (get_or o (at + i) 0) 1 ≡ get_or (map is_set w) i false = ap is_set (sym g) ∙ sym (changed-at is_set w i 0 false m) in
-    let s : i < length (map is_set w) = omega (arith, length-map w is_set) in
-    let r : 0 + i < length (replicate 8 false) = omega (arith, length-replicate {A = Bool} 8 false) in
-    ap₂ (λ (f : List Bool) (b : Bool). set f i b) e y
-    ∙ ap (λ (j : ℕ). set (paste (replicate 8 false) 0 (map is_set w) i) j (get_or (map is_set w) i false)) (sym (zero-add i))
-    ∙ paste-suc (replicate 8 false) 0 (map is_set w) i false r s ∙ ap (paste (replicate 8 false) 0 (map is_set w)) (sym (add-one i))
+-- what `from_fn` made by a closure that answers h and stays as it is
+module _ {F B : Type 0} (g : Mut F (ℕ × Unit {0}) B) (f : F) (h : ℕ → B) (ys : List B) (told : (i : ℕ) (y : B) (q : F) → Called g f (i, tt) y q → (q ≡ f) × (y ≡ h i)) where
+  pub made-at : (n i : ℕ) → IsFromFnResultFrom g f ys i n → (j : ℕ) (d : B) → i ≤ j → j < i + n → get_or ys j d ≡ h j
+  made-at zero i m j d a b = absurd (omega arith)
+  made-at (suc n) i (q, y, at, call, more) j d a b =
+      let t = told i y q call in
+      ⊎_elim (λ (e : i ≡ j). rw (← e) (at.1 d ∙ t.1))
+      (λ (l : i < j). made-at n (i + 1) (subst (λ (p : F). IsFromFnResultFrom g p ys (i + 1) n) t.0 more) j d (omega arith) (omega arith))
+      (eq-or-lt_of_le a)
 
-pub flags-all :
-    (o : List ℕ) (at i : ℕ) (flags : List Bool) →
-    flags ≡ paste (replicate 8 false) 0 (map is_set (take 8 (drop at o))) i →
-    at + 8 ≤ length o →
-    i ≤ 8 →
-    8 ≤ i →
-    flags ≡ map is_set (take 8 (drop at o))
-flags-all o at i flags e h p q =
-    let w = map is_set (take 8 (drop at o)) in
-    let l : length (take 8 (drop at o)) ≡ 8 = simp (length-take, length-drop) (omega arith) in
-    let n : i ≡ 8 = omega arith in
-    e ∙ ap (λ (j : ℕ). paste (replicate 8 false) 0 w j) n ∙ append-nil (take 8 w) ∙ take_all 8 w (omega (arith, length-map (take 8 (drop at o)) is_set))
+-- the eight from a place on
+pub flags-read : (o : List ℕ) (at : ℕ) (flags : List Bool) → at + 8 ≤ length o → length flags ≡ 8 → ((i : ℕ) → i < 8 → get_or flags i false ≡ is_set (get_or o (at + i) 0))
+    → flags ≡ map is_set (take 8 (drop at o))
+flags-read o at flags h l each =
+    let w = take 8 (drop at o) in
+    let n : length w ≡ 8 = simp (length-take, length-drop) (omega arith) in
+    ext_get_or false flags (map is_set w) (l ∙ sym (length-map w is_set ∙ n))
+    (λ i k. each i (omega arith) ∙ sym (get_or-map is_set w i 0 false (omega arith) ∙ ap is_set (get_or-take 8 (drop at o) i 0 (omega arith) ∙ get_or-drop at o i 0)))
 
 -- ---- a whole array written over, by a part of the lent octets
 pub whole_part : (o r d : List ℕ) (at n : ℕ) → length d ≡ n → at + n ≤ length o → r ≡ over d 0 (take (at + n - at) (drop at o)) → r ≡ take n (drop at o)
@@ -80,10 +74,6 @@ pub form-interleaved : (o : List ℕ) (at : ℕ) → get_or o at 0 ≡ 1 → Int
 unfolding form_at
 form-interleaved o at e = simp (eq-eqb _ _ e)
 
-pub put-free : (f : Form) (d e : List ℕ) (at : ℕ) → f ≡ HeaderFree → e ≡ over d at (replicate 3 0) → e ≡ over d at (form_octets f)
-unfolding form_octets
-put-free f d e at q r = r ∙ ap (λ (g : Form). over d at (form_octets g)) (sym q)
-
 pub put-interleaved :
     (f : Form) (m : Limits) (d : List ℕ) (at : ℕ) →
     f ≡ Interleaved m →
@@ -101,8 +91,8 @@ types-laid hs ms d at le x o₁ o₂ o₃ e₁ e₂ e₃ =
 
 -- ---- a holding
 module _ (h : Holding) (d : List ℕ) (at : ℕ) (le : at ≤ length d) where
-  pub numbers-laid : (o₁ o₂ o₃ o₄ o₅ : List ℕ) → o₁ ≡ over d at (four_octets h.source) → o₂ ≡ over o₁ (at + 4) (two_octets h.sequence)
-      → o₃ ≡ over o₂ (at + 6) (four_octets h.timestamp) → o₄ ≡ over o₃ (at + 10) (h.l ∷ h.b ∷ [])
+  pub numbers-laid : (o₁ o₂ o₃ o₄ o₅ : List ℕ) → o₁ ≡ over d at (four_octets h.source) → o₂ ≡ over o₁ (at + 4) (two_octets h.numbers.sequence)
+      → o₃ ≡ over o₂ (at + 6) (four_octets h.numbers.timestamp) → o₄ ≡ over o₃ (at + 10) (h.numbers.l ∷ h.numbers.b ∷ [])
       → o₅ ≡ over o₄ (at + 12) (replicate 4 0) → o₅ ≡ over d at (number_octets h)
   unfolding number_octets
   numbers-laid o₁ o₂ o₃ o₄ o₅ e₁ e₂ e₃ e₄ e₅ =
@@ -120,38 +110,19 @@ module _ (h : Holding) (d : List ℕ) (at : ℕ) (le : at ≤ length d) where
   holding-laid x o₁ o₂ e₁ e₂ =
       lay-more d o₁ o₂ at (at + 112) (group_octets h) h.room le e₁ (ap (λ (i : ℕ). at + i) (sym (length-group h x))) e₂ ∙ ap (over d at) (sym (holding-parts h))
 
--- reading one: field by field
-pub holding-read :
-    (o : List ℕ) (at : ℕ) (h : Holding) →
-    h.source ≡ four_at o at →
-    h.sequence ≡ two_at o (at + 4) →
-    h.timestamp ≡ four_at o (at + 6) →
-    h.l ≡ get_or o (at + 10) 0 →
-    h.b ≡ get_or o (at + 11) 0 →
-    h.held ≡ map is_set (take 8 (drop (at + 16) o)) →
-    h.marks ≡ map (shifted 14) (take 80 (drop (at + 32) o)) →
-    h.room ≡ take 1760 (drop (at + 112) o) →
-    h ≡ holding_at o at
-unfolding holding_at
-holding-read o at h a b c d e f g i = same-fields a b c d e f g i
-
 -- ---- the numbers of the last poured group
-module _ (s : Session) (d : List ℕ) (le : 9 ≤ length d) where
-  pub last-laid : (o₁ o₂ o₃ o₄ : List ℕ) → s.poured ≡ true → o₁ ≡ over d 9 (two_octets s.last_sequence) → o₂ ≡ over o₁ 11 (s.last_l ∷ s.last_b ∷ [])
-      → o₃ ≡ over o₂ 13 (replicate 3 0) → o₄ ≡ over o₃ 16 (four_octets s.last_timestamp) → o₄ ≡ over d 9 (last_octets s)
-  unfolding last_octets
-  last-laid o₁ o₂ o₃ o₄ b e₁ e₂ e₃ e₄ =
-      let s₂ = lay-more d o₁ o₂ 9 11 (K s) (E s) le e₁ (omega (arith, length_two s.last_sequence)) e₂ in
-      let s₃ = lay-more d o₂ o₃ 9 13 (K s ++ E s) (Z s) le s₂ (omega (arith, length-ke s)) e₃ in
-      lay-more d o₃ o₄ 9 16 (K s ++ E s ++ Z s) (T s) le s₃ (omega (arith, length-kez s)) e₄ ∙ simp b
-
-  pub none-laid : (e : List ℕ) → s.poured ≡ false → e ≡ over d 9 (replicate 11 0) → e ≡ over d 9 (last_octets s)
-  unfolding last_octets
-  none-laid e b p = p ∙ simp b
+pub last-laid : (l : Option GroupNumbers) (g : GroupNumbers) (d : List ℕ) → 9 ≤ length d → (o₁ o₂ o₃ o₄ : List ℕ) → l ≡ Some g → o₁ ≡ over d 9 (two_octets g.sequence)
+    → o₂ ≡ over o₁ 11 (g.l ∷ g.b ∷ []) → o₃ ≡ over o₂ 13 (replicate 3 0) → o₄ ≡ over o₃ 16 (four_octets g.timestamp) → o₄ ≡ over d 9 (last_octets l)
+unfolding last_octets
+last-laid l g d le o₁ o₂ o₃ o₄ q e₁ e₂ e₃ e₄ =
+    let s₂ = lay-more d o₁ o₂ 9 11 (K g) (E g) le e₁ (omega (arith, length_two g.sequence)) e₂ in
+    let s₃ = lay-more d o₂ o₃ 9 13 (K g ++ E g) (Z g) le s₂ (omega (arith, length-ke g)) e₃ in
+    lay-more d o₃ o₄ 9 16 (K g ++ E g ++ Z g) (T g) le s₃ (omega (arith, length-kez g)) e₄
+    ∙ ap (λ (k : Option GroupNumbers). over d 9 (last_octets k)) (sym q)
 
 -- ---- all of a session but its group
 pub head-laid : (s : Session) (d o₁ o₂ o₃ o₄ o₅ o₆ : List ℕ) → o₁ ≡ over d 0 (flag_octet s.«open» ∷ []) → o₂ ≡ over o₁ 1 (form_octets s.form) → o₃ ≡ over o₂ 4 (four_octets s.source)
-    → o₄ ≡ over o₃ 8 (flag_octet s.poured ∷ []) → o₅ ≡ over o₄ 9 (last_octets s) → o₆ ≡ over o₅ 20 (replicate 12 0)
+    → o₄ ≡ over o₃ 8 (flag_octet (is_some s.last) ∷ []) → o₅ ≡ over o₄ 9 (last_octets s.last) → o₆ ≡ over o₅ 20 (replicate 12 0)
     → o₆ ≡ over d 0 (session_head s)
 unfolding session_head
 head-laid s d o₁ o₂ o₃ o₄ o₅ o₆ e₁ e₂ e₃ e₄ e₅ e₆ =
@@ -205,11 +176,3 @@ module _ (o : List ℕ) (h : Holding) where
   pub holding-there : is_laid o (holding_laid h) ≡ true → h ≡ holding_at o 0 → h ≡ holding_in o
   unfolding holding_in is_holding
   holding-there e q = let z : is_laid o (holding_laid (holding_at o 0)) ≡ true = ap (λ (y : Holding). is_laid o (holding_laid y)) (sym q) ∙ e in q ∙ simp z
-
-  pub holding-none : (g : Holding) → is_laid o (holding_laid g) ≡ false → g ≡ holding_at o 0 → h ≡ nothing holding_shape → h ≡ holding_in o
-  unfolding holding_in is_holding
-  holding-none g e q n = let z : is_laid o (holding_laid (holding_at o 0)) ≡ false = ap (λ (y : Holding). is_laid o (holding_laid y)) (sym q) ∙ e in n ∙ simp z
-
-  pub holding-short : length o < 2304 → h ≡ nothing holding_shape → h ≡ holding_in o
-  unfolding holding_in is_holding is_laid
-  holding-short k n = n ∙ simp (too_short o k)

@@ -1,38 +1,35 @@
 -- A session in lent octets, in parts: laid out around its bodies, judged without them, and found there. Assumes nothing.
+use Rattle.std.specs.Prelude.{Result}
 use Prim.Native.Nat.{ℕ, ◌+◌, ◌-◌, ◌≤◌, ◌<◌}
 use mathlib.Core.Bool.{Bool, true, false, ◌&&◌}
 use mathlib.Core.Path.{◌≡◌, refl, sym, ap, ap₂, subst, ◌∙◌}
-use mathlib.Core.List.{List, ◌++◌, map}
+use mathlib.Core.List.{List, ◌++◌}
 use native.Mathlib.Omega.{arith}
 use lib.ListN.{length, take, drop, get_or, replicate, length-append, length-replicate, length-take, length-drop, take-append-drop}
 use lib.Seq.{take_all, take-add}
 use borrow.Rule.Slice.PartMut.{put_mid}
-use Rattle.octets.specs.Octets.{over, same_octets, all_zero, two_at, four_at}
+use Rattle.answers.specs.declared.Refusal.{Refusal}
+use Rattle.octets.specs.Octets.{over, same_octets, all_zero}
 use Rattle.octets.proofs.Logic.{both_true, both_so}
 use Rattle.octets.proofs.OctetsLaws.{same_refl, same_true, same-split, same-zeros, over-same, over-whole, over-kept, over-itself, over-inside, put-over, in-first, in-second}
-use Rattle.form.specs.declared.Form.{Form}
 use Rattle.frame.specs.Shape.{holding_shape}
 use Rattle.form.specs.Agreed.{voice_for}
-use Rattle.numbers.specs.declared.GroupNumbers.{GroupNumbers}
 use Rattle.answers.specs.Outputs.{octets}
 use Rattle.entries.specs.Entries.{entries_of}
 use Rattle.pouring.specs.Pouring.{in_time}
 use Rattle.holding.specs.Group.{Shaped, Spans, nothing}
 use Rattle.holding.proofs.GroupLaws.{sound-has, holds-sound}
-use Rattle.holding.specs.declared.Holding.{Holding}
-use Rattle.session.specs.Session.{vacant, never_opened, is_open, pour_made, ended}
+use Rattle.session.specs.Session.{Offered, vacant, never_opened, is_open, pour_made, ended}
 use Rattle.session.specs.Standing.{whole, Stands, offered_in}
 use Rattle.session.specs.declared.Standing.{Standing}
 use Rattle.session.specs.declared.Session.{Session}
-use Rattle.session.specs.declared.Offered.{Offered}
-use Rattle.session.specs.declared.Stood.{Stood}
 use Rattle.session.proofs.Ends.{open-has}
 use Rattle.session.proofs.SessionLaws.{group-holds, pour-group}
 use Rattle.session.proofs.StandingLaws.{stands_of}
-use Rattle.lending.specs.Laid.{is_set, is_long, is_laid, form_at, holding_at, holding_octets, holding_laid, session_head, session_laid, session_at, is_session, session_in, session_voice}
+use Rattle.lending.specs.Laid.{is_long, is_laid, numbers_at, holding_at, holding_octets, holding_laid, session_head, session_laid, session_at, is_session, session_in, session_voice}
 use Rattle.lending.specs.Parts.{group_octets, front_octets, types_at, bodies_at}
 use Rattle.lending.proofs.Pieces.{length-holding, length-grouped, length-head, session-parts, length_front, length_before, length-session-laid}
-use Rattle.lending.proofs.LaidLaws.{lay-more, holding-read, all-of-holding, long_enough, too_short, laid-long, at-shaped}
+use Rattle.lending.proofs.LaidLaws.{lay-more, all-of-holding, long_enough, too_short, laid-long, at-shaped}
 
 -- the bodies that lie in a session's octets
 pub bodies-long : (o : List ℕ) → 2304 ≤ length o → length (bodies_at o) ≡ 1760
@@ -74,34 +71,13 @@ pub around-kept : (t : Standing) (ms o o₁ o₂ : List ℕ) → 2304 ≤ length
 around-kept t ms o o₁ o₂ h l e₁ e₂ = around-laid t ms (bodies_at o₁) o (bodies-long o₁ (omega arith)) h o₁ o₂ e₁ e₂
 
 -- what was answered, its bodies lent as a part of the session's octets and given back
-pub taken_back : (r : Stood) (ns o rs o₁ : List ℕ) (x : Offered) → 2304 ≤ length o → length rs ≡ length (bodies_at o) → o₁ ≡ put_mid 144 1760 o rs → offered_in r ns rs ≡ x
-    → (offered_in r ns (bodies_at o₁) ≡ x) × (o₁ ≡ over o 144 (bodies_at o₁))
-taken_back r ns o rs o₁ x h l e y =
+pub taken_back : (r : Result ℕ Refusal) (t : Standing) (ns o rs o₁ : List ℕ) (x : Offered) → 2304 ≤ length o → length rs ≡ length (bodies_at o) → o₁ ≡ put_mid 144 1760 o rs → offered_in r t ns rs ≡ x
+    → (offered_in r t ns (bodies_at o₁) ≡ x) × (o₁ ≡ over o 144 (bodies_at o₁))
+taken_back r t ns o rs o₁ x h l e y =
     let k : length rs ≡ 1760 = l ∙ bodies-long o h in
     let q : o₁ ≡ over o 144 rs = e ∙ put-over o rs 144 1760 k in
     let b : bodies_at o₁ ≡ rs = ap bodies_at q ∙ over-same o 144 rs (omega arith) 1760 k in
-    (ap (offered_in r ns) b ∙ y, q ∙ ap (over o 144) (sym b))
-
--- ---- read
-same-session : {o o' p p' : Bool} {s s' q q' t t' l l' b b' : ℕ} {f f' : Form} {g g' : Holding} → o ≡ o' → s ≡ s' → f ≡ f' → g ≡ g' → p ≡ p' → q ≡ q' → t ≡ t' → l ≡ l' → b ≡ b'
-    → ◌≡◌ {A = Session} (record { «open» = o; source = s; form = f; group = g; poured = p; last_sequence = q; last_timestamp = t; last_l = l; last_b = b })
-    (record { «open» = o'; source = s'; form = f'; group = g'; poured = p'; last_sequence = q'; last_timestamp = t'; last_l = l'; last_b = b' })
-same-session a b c d e f g h i = cc
-
-pub session-read : (o : List ℕ) (s : Session) → s.«open» ≡ is_set (get_or o 0 0) → s.source ≡ four_at o 4 → s.form ≡ form_at o 1 → s.group ≡ holding_at o 32
-    → s.poured ≡ is_set (get_or o 8 0) → s.last_sequence ≡ two_at o 9 → s.last_timestamp ≡ four_at o 16 → s.last_l ≡ get_or o 11 0 → s.last_b ≡ get_or o 12 0 → s ≡ session_at o
-unfolding session_at
-session-read o s a b c d e f g h i = same-session a b c d e f g h i
-
--- the numbers of a group that lie from three places on
-abbrev Says : List ℕ → ℕ → ℕ → ℕ → GroupNumbers → Type 0
-Says o sequence timestamp l g = (g.sequence ≡ two_at o sequence) × (g.timestamp ≡ four_at o timestamp) × (g.l ≡ get_or o l 0) × (g.b ≡ get_or o (l + 1) 0)
-
-pub standing-read : (o : List ℕ) (t : Standing) → t.«open» ≡ is_set (get_or o 0 0) → t.source ≡ four_at o 4 → t.form ≡ form_at o 1 → t.group_source ≡ four_at o 32
-    → Says o 36 38 42 t.numbers → t.held ≡ map is_set (take 8 (drop 48 o)) → t.poured ≡ is_set (get_or o 8 0) → Says o 9 16 11 t.last
-    → whole t (types_at o) (bodies_at o) ≡ session_at o
-standing-read o t a b c d e f g h =
-    session-read o (whole t (types_at o) (bodies_at o)) a b c (holding-read o 32 _ d e.0 e.1 e.2 e.3 f refl refl) g h.0 h.1 h.2 h.3
+    (ap (offered_in r t ns) b ∙ y, q ∙ ap (over o 144) (sym b))
 
 -- ---- judged
 parts-of : (o : List ℕ) → take 2304 o ≡ take 144 o ++ bodies_at o ++ take 400 (drop 1904 o)
@@ -215,15 +191,15 @@ found o t ms e q m =
     }
 
 -- its B lies at 43
-pub frames-at : (o : List ℕ) → is_session o ≡ true → get_or o 43 0 ≡ (session_in o).group.b
-unfolding session_at holding_at
-frames-at o e = ap (λ (s : Session). s.group.b) (sym (one_in o e))
+pub frames-at : (o : List ℕ) → is_session o ≡ true → get_or o 43 0 ≡ (session_in o).group.numbers.b
+unfolding session_at holding_at numbers_at
+frames-at o e = ap (λ (s : Session). s.group.numbers.b) (sym (one_in o e))
 
 -- ---- its group poured
 module _ (o : List ℕ) (t : Standing) (ms : List ℕ) (f : Found o t ms) where
-  module _ (n : (session_in o).group.b ≡ 0 → ⊥) where
+  module _ (n : (session_in o).group.numbers.b ≡ 0 → ⊥) where
     some_in : t.numbers.b ≡ 0 → ⊥
-    some_in z = n (sym (ap (λ (s : Session). s.group.b) f.is) ∙ z)
+    some_in z = n (sym (ap (λ (s : Session). s.group.numbers.b) f.is) ∙ z)
 
     pub may-pour : (length ms ≡ 80) × (length (bodies_at o) ≡ 1760) × (t.numbers.l ≤ 7) × (t.numbers.b ≤ 10)
     may-pour =

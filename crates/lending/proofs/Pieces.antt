@@ -1,6 +1,7 @@
 -- The pieces that a holding and a session are laid out in, and how long each beginning is. Assumes nothing.
 use Prim.Native.Nat.{ℕ, ◌+◌}
-use mathlib.Core.Bool.{Bool, true, false, cond}
+use Rattle.std.specs.Prelude.{Option, Some, None, is_some}
+use mathlib.Core.Bool.{Bool}
 use mathlib.Core.Path.{◌≡◌, refl, sym, ap, ap₂, ◌∙◌}
 use mathlib.Core.List.{List, [], ◌∷◌, ◌++◌, map, append_assoc}
 use native.Mathlib.Omega.{arith}
@@ -12,6 +13,7 @@ use Rattle.form.specs.declared.Form.TheVariants.{HeaderFree, Interleaved}
 use Rattle.frame.specs.Shape.{holding_shape}
 use Rattle.holding.specs.Group.{Shaped}
 use Rattle.holding.specs.declared.Holding.{Holding}
+use Rattle.numbers.specs.declared.GroupNumbers.{GroupNumbers}
 use Rattle.session.specs.declared.Session.{Session}
 use Rattle.lending.specs.Laid.{flag_octet, number_octets, frame_octets, holding_octets, holding_laid, form_octets, last_octets}
 use Rattle.lending.specs.Laid.{session_head, session_laid}
@@ -48,19 +50,19 @@ module _ (h : Holding) where
   A = four_octets h.source
 
   abbrev pub B : List ℕ
-  B = two_octets h.sequence
+  B = two_octets h.numbers.sequence
 
   abbrev pub C : List ℕ
-  C = four_octets h.timestamp
+  C = four_octets h.numbers.timestamp
 
   abbrev pub D : List ℕ
-  D = h.l ∷ h.b ∷ []
+  D = h.numbers.l ∷ h.numbers.b ∷ []
 
   pub length-ab : length (A ++ B) ≡ 6
-  length-ab = length-append A B ∙ ap₂ ◌+◌ (length-four h.source) (length_two h.sequence)
+  length-ab = length-append A B ∙ ap₂ ◌+◌ (length-four h.source) (length_two h.numbers.sequence)
 
   pub length-abc : length (A ++ B ++ C) ≡ 10
-  length-abc = length-append (A ++ B) C ∙ ap₂ ◌+◌ length-ab (length-four h.timestamp)
+  length-abc = length-append (A ++ B) C ∙ ap₂ ◌+◌ length-ab (length-four h.numbers.timestamp)
 
   pub length-abcd : length (A ++ B ++ C ++ D) ≡ 12
   length-abcd = length-append (A ++ B ++ C) D ∙ omega (arith, length-abc)
@@ -82,12 +84,38 @@ module _ (h : Holding) where
     unfolding holding_laid
     length-holding-laid = length-append (holding_octets h) (replicate 432 0) ∙ ap₂ ◌+◌ length-holding (length-replicate {A = ℕ} 432 0)
 
--- ---- a session, but for its group
+-- ---- a form
 pub length-form : (f : Form) → length (form_octets f) ≡ 3
 unfolding form_octets
 length-form HeaderFree = refl
 length-form (Interleaved m) = refl
 
+-- ---- the numbers of the last poured group
+module _ (g : GroupNumbers) where
+  abbrev pub K : List ℕ
+  K = two_octets g.sequence
+
+  abbrev pub E : List ℕ
+  E = g.l ∷ g.b ∷ []
+
+  abbrev pub Z : List ℕ
+  Z = replicate 3 0
+
+  abbrev pub T : List ℕ
+  T = four_octets g.timestamp
+
+  pub length-ke : length (K ++ E) ≡ 4
+  length-ke = length-append K E ∙ omega (arith, length_two g.sequence)
+
+  pub length-kez : length (K ++ E ++ Z) ≡ 7
+  length-kez = length-append (K ++ E) Z ∙ omega (arith, length-ke)
+
+pub length_last : (l : Option GroupNumbers) → length (last_octets l) ≡ 11
+unfolding last_octets
+length_last None = refl
+length_last (Some g) = length-append (K g ++ E g ++ Z g) (T g) ∙ ap₂ ◌+◌ (length-kez g) (length-four g.timestamp)
+
+-- ---- all of a session but its group
 module _ (s : Session) where
   abbrev pub O : List ℕ
   O = flag_octet s.«open» ∷ []
@@ -99,23 +127,10 @@ module _ (s : Session) where
   S = four_octets s.source
 
   abbrev pub P : List ℕ
-  P = flag_octet s.poured ∷ []
+  P = flag_octet (is_some s.last) ∷ []
 
   abbrev pub Q : List ℕ
-  Q = last_octets s
-
-  -- the numbers of the last poured group, if there is one
-  abbrev pub K : List ℕ
-  K = two_octets s.last_sequence
-
-  abbrev pub E : List ℕ
-  E = s.last_l ∷ s.last_b ∷ []
-
-  abbrev pub Z : List ℕ
-  Z = replicate 3 0
-
-  abbrev pub T : List ℕ
-  T = four_octets s.last_timestamp
+  Q = last_octets s.last
 
   pub length-og : length (O ++ G) ≡ 4
   length-og = length-append O G ∙ omega (arith, length-form s.form)
@@ -126,22 +141,8 @@ module _ (s : Session) where
   pub length-ogsp : length (O ++ G ++ S ++ P) ≡ 9
   length-ogsp = length-append (O ++ G ++ S) P ∙ omega (arith, length-ogs)
 
-  pub length-ke : length (K ++ E) ≡ 4
-  length-ke = length-append K E ∙ omega (arith, length_two s.last_sequence)
-
-  pub length-kez : length (K ++ E ++ Z) ≡ 7
-  length-kez = length-append (K ++ E) Z ∙ omega (arith, length-ke)
-
-  pub length_last : length Q ≡ 11
-  unfolding last_octets
-  length_last = go s.poured
-    where
-      go : (b : Bool) → length (cond b (K ++ E ++ Z ++ T) (replicate 11 0)) ≡ 11
-      go true = length-append (K ++ E ++ Z) T ∙ ap₂ ◌+◌ length-kez (length-four s.last_timestamp)
-      go false = refl
-
   pub length-ogspq : length (O ++ G ++ S ++ P ++ Q) ≡ 20
-  length-ogspq = length-append (O ++ G ++ S ++ P) Q ∙ ap₂ ◌+◌ length-ogsp length_last
+  length-ogspq = length-append (O ++ G ++ S ++ P) Q ∙ ap₂ ◌+◌ length-ogsp (length_last s.last)
 
   pub length-head : length (session_head s) ≡ 32
   unfolding session_head

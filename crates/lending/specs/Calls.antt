@@ -1,48 +1,31 @@
 -- The calls of document 01, "Session", on sessions and holdings in octets that a host lends.
-use Rattle.std.specs.Prelude.{ℕ, cond, List, replicate}
+use Rattle.std.specs.Prelude.{ℕ, cond, List, replicate, Result, Ok, Err}
+use Rattle.answers.specs.declared.Refusal.{Refusal}
 use Rattle.octets.specs.Octets.{over}
 use Rattle.frame.specs.Shape.{Voice, holding_shape}
 use Rattle.answers.specs.Outputs.{Made}
 use Rattle.form.specs.declared.Form.{Form}
 use Rattle.answers.specs.declared.Refusal.TheVariants.{NoRoom}
-use Rattle.answers.specs.declared.Written.{Written}
-use Rattle.answers.specs.declared.Written.TheVariants as written
-use Rattle.answers.specs.declared.Answer.{Answer}
-use Rattle.answers.specs.declared.Answer.TheVariants as answer
 use Rattle.holding.specs.Asked.{described, lost_between}
 use Rattle.holding.specs.declared.Described.{Described}
-use Rattle.holding.specs.declared.Lost.{Lost}
 use Rattle.joining.specs.Joining.{join_of}
 use Rattle.pouring.specs.Pouring.{poured}
-use Rattle.session.specs.Session.{never_opened, opened_for, offered, pour_made, ended, copied, dropped}
-use Rattle.session.specs.declared.Started.{Started}
-use Rattle.session.specs.declared.Taken.{Taken}
-use Rattle.session.specs.declared.Taken.TheVariants as taken
+use Rattle.session.specs.Session.{Started, never_opened, opened_for, offered, pour_made, ended, copied, dropped}
 use Rattle.lending.specs.Laid.{is_long, holding_in, holding_laid, session_in, session_laid}
 
 -- "output shorter than the answer needs": 15
-unfoldable pub room_in : List ℕ → Answer
-room_in out = cond (is_long out) answer.Done (answer.Refused NoRoom)
+unfoldable pub room_in : List ℕ → Result Unit Refusal
+room_in out = cond (is_long out) (Ok tt) (Err NoRoom)
 
 -- it "always comes last": a refusal, or the room for what was done
-unfoldable pub then_room : Answer → List ℕ → Answer
-then_room answer.Done out = room_in out
-then_room (answer.Refused r) out = answer.Refused r
+unfoldable pub then_room : Result Unit Refusal → List ℕ → Result Unit Refusal
+then_room (Ok u) out = room_in out
+then_room (Err r) out = Err r
 
 -- a call that was done lays out what it gives; a refused one "changes nothing lent"
-unfoldable pub lay_if : Answer → List ℕ → List ℕ → List ℕ
-lay_if answer.Done o w = over o 0 w
-lay_if (answer.Refused r) o w = o
-
--- the same for an offer
-unfoldable pub lay_taken : Taken → List ℕ → List ℕ → List ℕ
-lay_taken (taken.Accepted lost) o w = over o 0 w
-lay_taken (taken.Refused r) o w = o
-
--- the same for a pouring
-unfoldable pub lay_written : Written → List ℕ → List ℕ → List ℕ
-lay_written (written.Octets n) o w = over o 0 w
-lay_written (written.Refused r) o w = o
+unfoldable pub lay_if : {A : Type 0} → Result A Refusal → List ℕ → List ℕ → List ℕ
+lay_if (Ok x) o w = over o 0 w
+lay_if (Err r) o w = o
 
 -- ---- opening, offering: "open session (21)", which a session that is too short is not
 
@@ -51,7 +34,7 @@ abbrev pub opened_in : ℕ → Form → Started
 opened_in source form = opened_for holding_shape (never_opened holding_shape) source form
 
 -- the answer to opening: 21, then 15
-unfoldable pub open_answer : List ℕ → ℕ → Form → Answer
+unfoldable pub open_answer : List ℕ → ℕ → Form → Result Unit Refusal
 open_answer o source form = then_room (opened_in source form).answer o
 
 -- the session's octets after opening
@@ -59,24 +42,24 @@ unfoldable pub open_octets : List ℕ → ℕ → Form → List ℕ
 open_octets o source form = lay_if (open_answer o source form) o (session_laid (opened_in source form).session)
 
 -- the answer to an offer is what the session in the octets answers
-unfoldable pub offer_answer : Voice → List ℕ → ℕ → ℕ → ℕ → List ℕ → Taken
+unfoldable pub offer_answer : Voice → List ℕ → ℕ → ℕ → ℕ → List ℕ → Result ℕ Refusal
 offer_answer v o source sequence timestamp p = (offered v (session_in o) source sequence timestamp p).answer
 
 -- the session's octets after an offer
 unfoldable pub offer_octets : Voice → List ℕ → ℕ → ℕ → ℕ → List ℕ → List ℕ
 offer_octets v o source sequence timestamp p =
-    lay_taken (offer_answer v o source sequence timestamp p) o (session_laid (offered v (session_in o) source sequence timestamp p).session)
+    lay_if (offer_answer v o source sequence timestamp p) o (session_laid (offered v (session_in o) source sequence timestamp p).session)
 
 -- ---- pouring, copying out, dropping, ending
 unfoldable pub pour_of : Voice → List ℕ → Made
 pour_of v o = pour_made v (session_in o)
 
 -- the session's octets after a pouring
-unfoldable pub pour_octets : List ℕ → Written → List ℕ
-pour_octets o w = lay_written w o (session_laid (ended holding_shape (session_in o)))
+unfoldable pub pour_octets : List ℕ → Result ℕ Refusal → List ℕ
+pour_octets o w = lay_if w o (session_laid (ended holding_shape (session_in o)))
 
 -- the answer to copying out: 21, then 15
-unfoldable pub copy_answer : Voice → List ℕ → List ℕ → Answer
+unfoldable pub copy_answer : Voice → List ℕ → List ℕ → Result Unit Refusal
 copy_answer v o out = then_room (copied v (session_in o)).answer out
 
 -- the holding's octets after copying out
@@ -84,7 +67,7 @@ unfoldable pub copy_octets : Voice → List ℕ → List ℕ → List ℕ
 copy_octets v o out = lay_if (copy_answer v o out) out (holding_laid (copied v (session_in o)).holding)
 
 -- the answer to dropping: 21, which a session that is too short answers
-unfoldable pub drop_answer : Voice → List ℕ → Answer
+unfoldable pub drop_answer : Voice → List ℕ → Result Unit Refusal
 drop_answer v o = (dropped v (session_in o)).answer
 
 -- the session's octets after dropping
@@ -92,7 +75,7 @@ unfoldable pub drop_octets : Voice → List ℕ → List ℕ
 drop_octets v o = lay_if (drop_answer v o) o (session_laid (dropped v (session_in o)).session)
 
 -- the answer to ending: 15, or done
-unfoldable pub end_answer : List ℕ → Answer
+unfoldable pub end_answer : List ℕ → Result Unit Refusal
 end_answer o = room_in o
 
 -- "Ending a session clears all of it": its octets are zero
@@ -100,7 +83,7 @@ unfoldable pub end_octets : List ℕ → List ℕ
 end_octets o = lay_if (end_answer o) o (replicate 2304 0)
 
 -- ---- joining, and pouring a holding: 21, 20, 14, then 15
-unfoldable pub join_answer : Voice → List ℕ → List ℕ → List ℕ → Answer
+unfoldable pub join_answer : Voice → List ℕ → List ℕ → List ℕ → Result Unit Refusal
 join_answer v a b out = then_room (join_of v (holding_in a) (holding_in b)).answer out
 
 -- the joined holding's octets
@@ -114,9 +97,9 @@ pour_held v o = poured v (holding_in o)
 -- ---- what a host of two boxes asks: 21, which a holding that is too short answers
 
 -- what a holding is
-unfoldable pub read_held : Voice → List ℕ → Described
+unfoldable pub read_held : Voice → List ℕ → Result Described Refusal
 read_held v o = described v (holding_in o)
 
 -- the lost frames between two groups
-unfoldable pub lost_of : Voice → List ℕ → List ℕ → Lost
+unfoldable pub lost_of : Voice → List ℕ → List ℕ → Result ℕ Refusal
 lost_of v a b = lost_between v (holding_in a) (holding_in b)

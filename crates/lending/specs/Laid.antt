@@ -1,11 +1,13 @@
 -- Sessions and holdings in 2,304 octets that a host lends (document 01, "Groups" and "Session"; LAYOUT.md has the layout as a table).
 -- All of a holding of nothing, and all of a session never opened, is zero.
 use Rattle.std.specs.Prelude.{ℕ, ◌+◌, Bool, cond, ◌&&◌, List, [], ◌∷◌, ◌++◌, map, eqb, leb, length, take, drop, get_or, replicate}
+use Rattle.std.specs.Prelude.{Option, Some, None, is_some}
 use Rattle.octets.specs.Octets.{shifted, two_at, four_at, two_octets, four_octets, same_octets}
 use Rattle.form.specs.declared.Form.{Form}
 use Rattle.form.specs.declared.Form.TheVariants.{HeaderFree, Interleaved}
 use Rattle.frame.specs.Shape.{Voice, holding_shape}
 use Rattle.form.specs.Agreed.{voice_for}
+use Rattle.numbers.specs.declared.GroupNumbers.{GroupNumbers}
 use Rattle.holding.specs.Group.{nothing, voice_in}
 use Rattle.holding.specs.declared.Holding.{Holding}
 use Rattle.session.specs.Session.{never_opened}
@@ -34,7 +36,8 @@ is_laid o w = is_long o && same_octets w (take 2304 o)
 -- the numbers of a holding: octets 0 to 15, of which the last four stand for nothing
 unfoldable pub number_octets : Holding → List ℕ
 number_octets h =
-    four_octets h.source ++ two_octets h.sequence ++ four_octets h.timestamp ++ (h.l ∷ h.b ∷ []) ++ replicate 4 0
+    four_octets h.source ++ two_octets h.numbers.sequence ++ four_octets h.numbers.timestamp ++ (h.numbers.l ∷ h.numbers.b ∷ []) ++
+    replicate 4 0
 
 -- which packets are held, eight octets that stand for nothing, the types and the bodies: octets 16 to 1,871
 unfoldable pub frame_octets : Holding → List ℕ
@@ -44,15 +47,16 @@ frame_octets h = map flag_octet h.held ++ replicate 8 0 ++ map (shifted 242) h.m
 unfoldable pub holding_octets : Holding → List ℕ
 holding_octets h = number_octets h ++ frame_octets h
 
+-- the numbers of a group that are laid out in o from index `at` on
+unfoldable pub numbers_at : List ℕ → ℕ → GroupNumbers
+numbers_at o at = record { sequence = two_at o at; timestamp = four_at o (at + 2); l = get_or o (at + 6) 0; b = get_or o (at + 7) 0 }
+
 -- the holding that is laid out in o from index `at` on
 unfoldable pub holding_at : List ℕ → ℕ → Holding
 holding_at o at =
     record {
       source = four_at o at;
-      sequence = two_at o (at + 4);
-      timestamp = four_at o (at + 6);
-      l = get_or o (at + 10) 0;
-      b = get_or o (at + 11) 0;
+      numbers = numbers_at o (at + 4);
       held = map is_set (take 8 (drop (at + 16) o));
       marks = map (shifted 14) (take 80 (drop (at + 32) o));
       room = take 1760 (drop (at + 112) o);
@@ -83,21 +87,25 @@ form_at o at =
     cond (is_set (get_or o at 0)) (Interleaved (record { max_l = get_or o (at + 1) 0; max_b = get_or o (at + 2) 0 })) HeaderFree
 
 -- the numbers of the last poured group, which are zero where none was: octets 9 to 19, of which 13 to 15 stand for nothing
-unfoldable pub last_octets : Session → List ℕ
-last_octets s =
-    cond s.poured
-    (two_octets s.last_sequence ++ (s.last_l ∷ s.last_b ∷ []) ++ replicate 3 0 ++ four_octets s.last_timestamp)
-    (replicate 11 0)
+unfoldable pub last_octets : Option GroupNumbers → List ℕ
+last_octets None = replicate 11 0
+last_octets (Some g) = two_octets g.sequence ++ (g.l ∷ g.b ∷ []) ++ replicate 3 0 ++ four_octets g.timestamp
 
--- what stands before the held group: octets 0 to 31, of which the last twelve stand for nothing
+-- what stands before the held group: octets 0 to 31, of which octet 8 says whether one was poured, and the last twelve stand for nothing
 unfoldable pub session_head : Session → List ℕ
 session_head s =
-    (flag_octet s.«open» ∷ []) ++ form_octets s.form ++ four_octets s.source ++ (flag_octet s.poured ∷ []) ++
-    last_octets s ++ replicate 12 0
+    (flag_octet s.«open» ∷ []) ++ form_octets s.form ++ four_octets s.source ++ (flag_octet (is_some s.last) ∷ []) ++
+    last_octets s.last ++ replicate 12 0
 
 -- a session in 2,304 octets
 unfoldable pub session_laid : Session → List ℕ
 session_laid s = session_head s ++ holding_octets s.group ++ replicate 400 0
+
+-- the numbers of the last poured group, if such octets say that there is one
+unfoldable pub last_at : List ℕ → Option GroupNumbers
+last_at o =
+    cond (is_set (get_or o 8 0))
+    (Some (record { sequence = two_at o 9; timestamp = four_at o 16; l = get_or o 11 0; b = get_or o 12 0 })) None
 
 -- the session that such octets say
 unfoldable pub session_at : List ℕ → Session
@@ -107,11 +115,7 @@ session_at o =
       source = four_at o 4;
       form = form_at o 1;
       group = holding_at o 32;
-      poured = is_set (get_or o 8 0);
-      last_sequence = two_at o 9;
-      last_timestamp = four_at o 16;
-      last_l = get_or o 11 0;
-      last_b = get_or o 12 0;
+      last = last_at o;
     }
 
 -- octets are a session if that session, laid out, is they

@@ -30,4 +30,4 @@ bodies_at o = take 1760 (drop 144 o)
 
 -- "session open and group held": a held group has a frame to a packet
 unfoldable pub has_group : Voice → Session → Bool
-has_group v s = is_open v s && not (eqb s.group.b 0)
+has_group v s = is_open v s && not (eqb s.group.numbers.b 0)

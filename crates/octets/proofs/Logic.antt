@@ -24,13 +24,6 @@ pub both_so : (t : Bool) → t && true ≡ t
 both_so true = refl
 both_so false = refl
 
--- two tests before a third may change places
-pub both-swap : (s t u : Bool) → s && (t && u) ≡ (t && s) && u
-both-swap true true u = refl
-both-swap true false u = refl
-both-swap false true u = refl
-both-swap false false u = refl
-
 pub hold-true : (t : Bool) → T t → t ≡ true
 hold-true true h = refl
 hold-true false h = absurd h

@@ -1,13 +1,17 @@
 -- Laws of lists of octets. Assumes nothing.
-use Rattle.std.proofs.Common.{◌≡◌, ℕ, zero, suc, ◌+◌, ◌-◌, ◌*◌, ◌/◌, ◌%◌, ◌<◌, ◌≤◌, Bool, true, false, ◌&&◌, eqb, List, [], ◌∷◌, ◌++◌, map, length, get_or, take, drop, set, replicate, sym, refl, ap}
+use Rattle.std.proofs.Common.{◌≡◌, ℕ, zero, suc, ◌+◌, ◌-◌, ◌*◌, ◌/◌, ◌%◌, ◌<◌, ◌≤◌, ◌^◌, Bool, true, false, ◌&&◌, eqb, List, [], ◌∷◌, ◌++◌, map, length, get_or, take, drop, set, replicate}
 use Rattle.std.proofs.Common.{◌∙◌, ap₂, append_assoc, append-nil, le_refl, add-zero, zero-add, add-one, arith, length-append, length-drop, length-set, take-append-drop, drop_of_length-le, length-take}
-use Rattle.std.proofs.Common.{length-take-le, get_or-drop, take_all, drop-cons, get_or-take, take-take, drop-drop, take_at, take-add, drop_at, eq-eqb, eqb-true}
+use Rattle.std.proofs.Common.{sym, refl, ap, length-take-le, get_or-drop, take_all, get_or-take, take-take, drop-drop, take_at, take-add, drop_at, eq-eqb, eqb-true}
 use native.Mathlib.Nat.{sub-zero, zero-sub, add-sub_cancel_left}
-use lib.ListN.{length-map, length-replicate, get_or-replicate}
+use lib.ListN.{length-map}
 use lib.Seq.{take-nil, take-append-le, drop-append-add, paste, paste-suc}
 use borrow.Rule.Slice.PartMut.{put_mid, post_of, Post-is}
+use Rattle.std.proofs.Math.Bool.{and_assoc}
+use Rattle.std.specs.Int.{w16, w32, to_be_bytes, from_be_bytes}
+use Rattle.std.specs.List.{fold, list_any, zip}
+use mathlib.Core.Bool.{beq}
 use Rattle.octets.specs.Octets.{over, same_octets, all_zero, any_set, two_at, four_at, two_octets, four_octets}
-use Rattle.octets.proofs.Logic.{apart, both_true, both_false, both_so, both-swap}
+use Rattle.octets.proofs.Logic.{apart, both_true, both_false, both_so}
 
 -- ---- same_octets
 
@@ -34,19 +38,13 @@ same-long [] (y ∷ ys) h = refl
 same-long (x ∷ xs) [] h = refl
 same-long (x ∷ xs) (y ∷ ys) h = rw (same-long xs ys (λ e. h (ap suc e))) (both_false (eqb x y))
 
--- a loop over both, at i: what was found so far and what is left decide; a pair is found the same or not; at the end what was found decides
-module _ (a b : List ℕ) (i : ℕ) (so_far : Bool) (left : same_octets a b ≡ so_far && same_octets (drop i a) (drop i b)) where
-  pub same-again : i < length a → i < length b → same_octets a b ≡ (eqb (get_or a i 0) (get_or b i 0) && so_far) && same_octets (drop (i + 1) a) (drop (i + 1) b)
-  unfolding same_octets
-  same-again ha hb = left ∙ rw (add-one, drop-cons a i 0, drop-cons b i 0) (both-swap so_far (eqb (get_or a i 0) (get_or b i 0)) _)
-
-  pub same_end : length a ≡ length b → length a ≤ i → so_far ≡ same_octets a b
-  unfolding same_octets
-  same_end e h =
-      let p : drop i a ≡ [] = drop_of_length-le a h in
-      let k : length b ≤ i = omega arith in
-      let q : drop i b ≡ [] = drop_of_length-le b k in
-      sym (left ∙ simp (p, q, both_so))
+-- a fold over both as pairs, from what was found so far
+pub same-folded : (a b : List ℕ) (so_far : Bool) → length a ≡ length b → fold (λ (t : Bool) (p : ℕ × ℕ). t && eqb p.0 p.1) so_far (zip a b) ≡ so_far && same_octets a b
+unfolding same_octets
+same-folded [] [] so_far e = sym (both_so so_far)
+same-folded [] (y ∷ ys) so_far e = absurd (omega arith)
+same-folded (x ∷ xs) [] so_far e = absurd (omega arith)
+same-folded (x ∷ xs) (y ∷ ys) so_far e = same-folded xs ys (so_far && eqb x y) (omega arith) ∙ and_assoc so_far (eqb x y) (same_octets xs ys)
 
 -- two lists behind two of a length are equal if both are, as a test
 pub same-split : (a c b d : List ℕ) → length a ≡ length c → same_octets (a ++ b) (c ++ d) ≡ same_octets a c && same_octets b d
@@ -62,14 +60,11 @@ same-split (x ∷ a) (y ∷ c) b d e = go (same-split a c b d (omega arith)) (eq
 
 -- ---- all_zero
 
-module _ (s : List ℕ) (i : ℕ) (so_far : Bool) (left : all_zero s ≡ so_far && all_zero (drop i s)) where
-  pub zero-again : i < length s → all_zero s ≡ (eqb (get_or s i 0) 0 && so_far) && all_zero (drop (i + 1) s)
-  unfolding all_zero
-  zero-again h = left ∙ rw (add-one, drop-cons s i 0) (both-swap so_far (eqb (get_or s i 0) 0) _)
-
-  pub zero-end : length s ≤ i → so_far ≡ all_zero s
-  unfolding all_zero
-  zero-end h = let p : drop i s ≡ [] = drop_of_length-le s h in sym (left ∙ simp (p, both_so))
+-- a fold over it, from what was found so far
+pub zeros-folded : (s : List ℕ) (so_far : Bool) → fold (λ (t : Bool) (x : ℕ). t && eqb x 0) so_far s ≡ so_far && all_zero s
+unfolding all_zero
+zeros-folded [] so_far = sym (both_so so_far)
+zeros-folded (x ∷ xs) so_far = zeros-folded xs (so_far && eqb x 0) ∙ and_assoc so_far (eqb x 0) (all_zero xs)
 
 -- zeros are all there is
 pub zeros-are : (xs : List ℕ) → all_zero xs ≡ true → xs ≡ replicate (length xs) 0
@@ -105,18 +100,12 @@ unfolding any_set
 none-set zero = refl
 none-set (suc n) = none-set n
 
-module _ (s : List Bool) (i : ℕ) (left : any_set s ≡ any_set (drop i s)) where
-  pub any-again : i < length s → get_or s i false ≡ false → any_set s ≡ any_set (drop (i + 1) s)
-  unfolding any_set
-  any-again h e = left ∙ rw (add-one, drop-cons s i false, e)
-
-  pub any_found : i < length s → get_or s i false ≡ true → true ≡ any_set s
-  unfolding any_set
-  any_found h e = sym (left ∙ rw (drop-cons s i false, e))
-
-  pub any-end : length s ≤ i → false ≡ any_set s
-  unfolding any_set
-  any-end h = let p : drop i s ≡ [] = drop_of_length-le s h in sym (left ∙ simp p)
+-- as the language tests a list
+pub any-listed : (s : List Bool) → list_any (λ t. beq t true) s ≡ any_set s
+unfolding any_set
+any-listed [] = refl
+any-listed (true ∷ ts) = refl
+any-listed (false ∷ ts) = any-listed ts
 
 -- ---- over
 
@@ -131,18 +120,6 @@ copy-all d at s dst i e h k =
     let p : i ≡ length s = omega arith in
     let q : take i s ≡ s = take_all i s k in
     e ∙ ap (λ (l : List ℕ). take at d ++ l ++ drop (at + i) d) q ∙ ap (λ (n : ℕ). take at d ++ s ++ drop (at + n) d) p
-
--- a loop that writes n octets of x over d, at i
-pub fill_more : (d : List ℕ) (at n x : ℕ) (dst : List ℕ) (i : ℕ) → dst ≡ paste d at (replicate n x) i → at + n ≤ length d → i < n
-    → set dst (at + i) x ≡ paste d at (replicate n x) (i + 1)
-fill_more d at n x dst i e hd hi =
-    let k : length (replicate n x) ≡ n = length-replicate n x in
-    ap (set dst (at + i)) (sym (get_or-replicate n i x 0 hi)) ∙ copy_more d at (replicate n x) dst i e (omega arith) (omega arith)
-
-pub fill-all : (d : List ℕ) (at n x : ℕ) (dst : List ℕ) (i : ℕ) → dst ≡ paste d at (replicate n x) i → i ≤ n → n ≤ i → dst ≡ over d at (replicate n x)
-fill-all d at n x dst i e h k =
-    let l : length (replicate n x) ≡ n = length-replicate n x in
-    copy-all d at (replicate n x) dst i e (omega arith) (omega arith)
 
 -- a loop that writes s over d, each element changed by f, at i
 pub changed-at : {A B : Type 0} (f : A → B) (s : List A) (i : ℕ) (a : A) (b : B) → i < length s → get_or (map f s) i b ≡ f (get_or s i a)
@@ -321,23 +298,23 @@ set-three d n x y z h =
     let b : n + 2 < length e = omega arith in
     set-over e (n + 2) z b ∙ ap (λ (l : List ℕ). over l (n + 2) (z ∷ [])) (set-two d n x y (omega arith)) ∙ over-append d n (x ∷ y ∷ []) (z ∷ []) (omega arith)
 
--- a number of two octets stored, and one of four
-pub put-two-is : (d : List ℕ) (at x : ℕ) → at + 2 ≤ length d → set (set d at (x / 256)) (at + 1) (x % 256) ≡ over d at (two_octets x)
+-- the octets of a number, as the language has them
+pub two_be : (x : ℕ) → x < 2 ^ 16 → to_be_bytes w16 x ≡ two_octets x
 unfolding two_octets
-put-two-is d at x h = set-two d at (x / 256) (x % 256) h
+two_be x h = let e : x / 256 % 256 ≡ x / 256 = omega arith in rw e refl
 
-pub put-four-is : (d e f : List ℕ) (at x : ℕ) → at + 4 ≤ length d → e ≡ over d at (two_octets (x / 65536)) → f ≡ over e (at + 2) (two_octets (x % 65536)) → f ≡ over d at (four_octets x)
+pub four_be : (x : ℕ) → x < 2 ^ 32 → to_be_bytes w32 x ≡ four_octets x
 unfolding two_octets four_octets
-put-four-is d e f at x h p q = q ∙ ap (λ (l : List ℕ). over l (at + 2) (two_octets (x % 65536))) p ∙ over-append d at (two_octets (x / 65536)) (two_octets (x % 65536)) (omega arith)
+four_be x h =
+    let a : x / 16777216 % 256 ≡ x / 65536 / 256 = omega arith in
+    let c : x / 256 % 256 ≡ x % 65536 / 256 = omega arith in
+    let d : x % 256 ≡ x % 65536 % 256 = omega arith in
+    rw (a, c, d) refl
 
 -- ---- numbers
-pub two_is : (s : List ℕ) (at : ℕ) → get_or s at 0 * 256 + get_or s (at + 1) 0 ≡ two_at s at
-unfolding two_at
-two_is s at = refl
-
-pub four_is : (s : List ℕ) (at : ℕ) → two_at s at * 65536 + two_at s (at + 2) ≡ four_at s at
-unfolding four_at
-four_is s at = refl
+pub four_is : (s : List ℕ) (at : ℕ) → from_be_bytes w32 (get_or s at 0 ∷ get_or s (at + 1) 0 ∷ get_or s (at + 2) 0 ∷ get_or s (at + 3) 0 ∷ []) ≡ four_at s at
+unfolding two_at four_at
+four_is s at = let e : at + 2 + 1 ≡ at + 3 = omega arith in rw e (omega arith)
 
 -- numbers are read from their windows
 pub octet-window : (s : List ℕ) (at n i : ℕ) → i < n → get_or s (at + i) 0 ≡ get_or (take n (drop at s)) i 0

@@ -1,5 +1,6 @@
 -- What the writers make, check by check. Assumes nothing.
-use Prim.Native.Nat.{ℕ, ◌+◌, ◌*◌, ◌≤◌, ◌<◌}
+use Rattle.std.proofs.Common.{Ok, Err}
+use Prim.Native.Nat.{ℕ, ◌+◌, ◌*◌, ◌≤◌}
 use mathlib.Core.Path.{◌≡◌, refl, sym, ap, ◌∙◌}
 use mathlib.Core.List.{List, [], ◌∷◌}
 use mathlib.Core.Bool.{Bool, true, false}
@@ -7,23 +8,20 @@ use native.Mathlib.Omega.{arith}
 use lib.ListN.{length, drop, get_or, length-drop}
 use lib.Seq.{take_all}
 use lib.Dec.{ltb}
-use borrow.Author.Tests.{eq-eqb, ne_eqb, le-leb, lt-leb, lt-ltb, le-ltb}
+use borrow.Author.Tests.{eq-eqb, ne_eqb, le-leb, le-ltb}
 use Rattle.octets.proofs.Logic.{apart}
 use Rattle.frame.specs.FrameTable.{Frame, known, size}
 use Rattle.form.specs.Agreed.{opened}
 use Rattle.answers.specs.Outputs.{octets, refused_output}
 use Rattle.form.specs.declared.Limits.{Limits}
-use Rattle.form.specs.declared.Opened.TheVariants as limits
 use Rattle.form.specs.declared.Form.TheVariants.{Interleaved}
 use Rattle.answers.specs.declared.Refusal.{Refusal}
-use Rattle.answers.specs.declared.Refusal.TheVariants.{IndexPastLength, LengthPastMaximum, BundleOutOfRange}
-use Rattle.answers.specs.declared.Refusal.TheVariants.{NotSendable, NotApplicable}
-use Rattle.form.proofs.AgreedLaws.{opened-agreed, opened-refused, range-bounds}
+use Rattle.answers.specs.declared.Refusal.TheVariants.{NotSendable}
+use Rattle.form.proofs.AgreedLaws.{opened-agreed}
 use Rattle.entries.specs.Kind.{Kind}
 use Rattle.entries.specs.Entries.{EntriesRead, frames, frame_of, entries, allowed, entries_in, frames_in}
 use Rattle.entries.specs.Entries as entry
 use Rattle.entries.specs.Counting.{counted_of}
-use Rattle.entries.specs.declared.Counted.TheVariants as counted
 use Rattle.entries.specs.declared.Rule.TheVariants as rule
 use Rattle.entries.proofs.Walking.{entry_if}
 use Rattle.entries.proofs.Clearing.{read-any}
@@ -33,64 +31,30 @@ use Rattle.packet.specs.Writing.{packet_of_group, packet_within, packet_made, on
 
 -- ---- the interleaved writer
 module _ (kind : Kind) (m : Limits) (l n b d : ℕ) (es : List ℕ) where
-  pub within-index : l < n → packet_within kind m l n b d es ≡ refused_output IndexPastLength
+  pub within-group : n ≤ l → l ≤ m.max_l → 1 ≤ b → b ≤ m.max_b → packet_within kind m l n b d es ≡ packet_of_group l n b d (entries_in kind rule.Sendable es)
   unfolding packet_within
-  within-index h = rw (lt-ltb _ _ h)
+  within-group h k p q = simp (le-ltb _ _ h, le-ltb _ _ k, le-leb _ _ p, le-leb _ _ q)
 
-  module _ (h : n ≤ l) where
-    pub within-length : m.max_l < l → packet_within kind m l n b d es ≡ refused_output LengthPastMaximum
-    unfolding packet_within
-    within-length k = simp (le-ltb _ _ h, lt-ltb _ _ k)
-
-    module _ (k : l ≤ m.max_l) where
-      pub within_none : b < 1 → packet_within kind m l n b d es ≡ refused_output BundleOutOfRange
-      unfolding packet_within
-      within_none q = simp (le-ltb _ _ h, le-ltb _ _ k, lt-leb _ _ q)
-
-      pub within-many : 1 ≤ b → m.max_b < b → packet_within kind m l n b d es ≡ refused_output BundleOutOfRange
-      unfolding packet_within
-      within-many p q = simp (le-ltb _ _ h, le-ltb _ _ k, le-leb _ _ p, lt-leb _ _ q)
-
-      pub within-group : 1 ≤ b → b ≤ m.max_b → packet_within kind m l n b d es ≡ packet_of_group l n b d (entries_in kind rule.Sendable es)
-      unfolding packet_within
-      within-group p q = simp (le-ltb _ _ h, le-ltb _ _ k, le-leb _ _ p, le-leb _ _ q)
-
-  pub made-not-opened : (r : Refusal) → opened m.max_l m.max_b ≡ limits.Refused r → packet_made kind (Interleaved m) l n b d es ≡ refused_output r
+  pub made-within : (a : Limits) → opened m.max_l m.max_b ≡ Ok a → d ≤ 1 → packet_made kind (Interleaved m) l n b d es ≡ packet_within kind a l n b d es
   unfolding packet_made
-  made-not-opened r e = let x = opened-refused m r e in rw x.0 (ap refused_output (sym x.1))
-
-  module _ (a : Limits) (e : opened m.max_l m.max_b ≡ limits.Agreed a) where
-    pub made-d : 1 < d → packet_made kind (Interleaved m) l n b d es ≡ refused_output NotApplicable
-    unfolding packet_made
-    made-d h = let x = opened-agreed m a e in simp (x.0, lt-leb _ _ h)
-
-    pub made-within : d ≤ 1 → packet_made kind (Interleaved m) l n b d es ≡ packet_within kind a l n b d es
-    unfolding packet_made
-    made-within h = let x = opened-agreed m a e in simp (x.0, le-leb _ _ h) (ap (λ (y : Limits). packet_within kind y l n b d es) (sym x.1))
-
--- ---- limits that were opened are in range
-pub opened-range : (m a : Limits) → opened m.max_l m.max_b ≡ limits.Agreed a → (a.max_l ≤ 7) × (a.max_b ≤ 10)
-opened-range m a e =
-    let x = opened-agreed m a e in
-    let r = range-bounds m x.0 in
-    rw x.1 (r.0, r.2)
+  made-within a e h = let x = opened-agreed m a e in simp (x.0, le-leb _ _ h) (ap (λ (y : Limits). packet_within kind y l n b d es) (sym x.1))
 
 -- ---- the walk, and the frame count
 module _ (l n b d : ℕ) (w : EntriesRead) where
-  pub group-refused : (r : Refusal) → counted.Refused r ≡ counted_of w → packet_of_group l n b d w ≡ refused_output r
+  pub group-refused : (r : Refusal) → Err r ≡ counted_of w → packet_of_group l n b d w ≡ refused_output r
   unfolding packet_of_group counted_of
   group-refused r e = go w e
     where
-      go : (u : EntriesRead) → counted.Refused r ≡ counted_of u → packet_of_group l n b d u ≡ refused_output r
+      go : (u : EntriesRead) → Err r ≡ counted_of u → packet_of_group l n b d u ≡ refused_output r
       go (entry.refused_entries f) x = let y : f ≡ r = cc in ap refused_output y
       go (frames fs) x = apart (cc)
 
-  module _ (c : ℕ) (e : counted.Frames c ≡ counted_of w) where
+  module _ (c : ℕ) (e : Ok c ≡ counted_of w) where
     frames-of : (fs : List Frame) × (w ≡ frames fs) × (c ≡ length fs)
     unfolding counted_of
     frames-of = go w refl e
       where
-        go : (u : EntriesRead) → w ≡ u → counted.Frames c ≡ counted_of u → (fs : List Frame) × (w ≡ frames fs) × (c ≡ length fs)
+        go : (u : EntriesRead) → w ≡ u → Ok c ≡ counted_of u → (fs : List Frame) × (w ≡ frames fs) × (c ≡ length fs)
         go (entry.refused_entries f) q x = apart (cc)
         go (frames fs) q x = (fs, q, cc)
 
@@ -105,7 +69,7 @@ pub record Group (kind : Kind) (l n b d : ℕ) (es : List ℕ) : Type 0 where
   pub made : packet_of_group l n b d (entries_in kind rule.Sendable es) ≡ octets (packed l n d (packet_frames l n b (group_in kind es)))
   pub count : (l + 1) * b ≡ length (group_in kind es)
 
-pub group-made : (kind : Kind) (l n b d c : ℕ) (es : List ℕ) → counted.Frames c ≡ counted_of (entries_in kind rule.Sendable es) → c ≡ (l + 1) * b → Group kind l n b d es
+pub group-made : (kind : Kind) (l n b d c : ℕ) (es : List ℕ) → Ok c ≡ counted_of (entries_in kind rule.Sendable es) → c ≡ (l + 1) * b → Group kind l n b d es
 unfolding packet_of_group frames_in
 group-made kind l n b d c es e h =
     let x = frames-of l n b d (entries_in kind rule.Sendable es) c e in
@@ -115,12 +79,12 @@ group-made kind l n b d c es e h =
     record { made = rw (x.1, eq-eqb (length x.0) ((l + 1) * b) z) (ap (λ (fs : List Frame). octets (packed l n d (packet_frames l n b fs))) (sym g)); count = sym z ∙ ap length (sym g) }
 
 -- ---- the header-free writer
-pub body_refused : (w : EntriesRead) (r : Refusal) → counted.Refused r ≡ counted_of w → one_body w ≡ refused_output r
+pub body_refused : (w : EntriesRead) (r : Refusal) → Err r ≡ counted_of w → one_body w ≡ refused_output r
 unfolding one_body counted_of
 body_refused (entry.refused_entries f) r x = let y : f ≡ r = cc in ap refused_output y
 body_refused (frames fs) r x = apart (cc)
 
-pub body-count : (w : EntriesRead) (c : ℕ) → counted.Frames c ≡ counted_of w → (c ≡ 1 → ⊥) → one_body w ≡ refused_output NotSendable
+pub body-count : (w : EntriesRead) (c : ℕ) → Ok c ≡ counted_of w → (c ≡ 1 → ⊥) → one_body w ≡ refused_output NotSendable
 unfolding one_body counted_of
 body-count (entry.refused_entries f) c x h = apart (cc)
 body-count (frames []) c x h = refl
@@ -146,11 +110,11 @@ no_more kind ok at (x ∷ p) e =
     go (frames fs) true false true q = apart (cc)
     go (entry.refused_entries f) true false true q = apart (cc)
 
-pub one-made : (kind : Kind) (es : List ℕ) (c : ℕ) → counted.Frames c ≡ counted_of (entries_in kind rule.HeaderFree es) → c ≡ 1 → One kind es
+pub one-made : (kind : Kind) (es : List ℕ) (c : ℕ) → Ok c ≡ counted_of (entries_in kind rule.HeaderFree es) → c ≡ 1 → One kind es
 unfolding one_body counted_of
 one-made kind es c e h = go (entries_in kind rule.HeaderFree es) refl e
   where
-    go : (w : EntriesRead) → entries_in kind rule.HeaderFree es ≡ w → counted.Frames c ≡ counted_of w → One kind es
+    go : (w : EntriesRead) → entries_in kind rule.HeaderFree es ≡ w → Ok c ≡ counted_of w → One kind es
     go (entry.refused_entries f) q x = apart (cc)
     go (frames []) q x = let z : c ≡ 0 = cc in absurd (omega arith)
     go (frames (f ∷ g ∷ fs)) q x = let z : c ≡ length (f ∷ g ∷ fs) = cc in absurd (omega arith)

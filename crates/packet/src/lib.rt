@@ -13,10 +13,13 @@ ghost use Rattle.octets.specs.Octets.{over};
 ghost use Rattle.packet.specs.Packet.{place_of, packet_frames, toc_of, bodies_of, group_in, Picked, EntryAt};
 ghost use Rattle.packet.specs.Writing.{packet_made, packet_within, packet_of_group, header_free_made, one_body};
 
-use answers::{Refusal, Written};
-use entries::{Counted, Rule};
-use form::{Form, Limits, Opened};
+use answers::Refusal;
+use entries::Rule;
+use form::{Form, Limits};
 use frame::Vocoder;
+
+// Memory is fixed: `places` has room for the ten entries that a packet may have, and b stands beside it. L, N, B and D are handed on one by
+// one, as the C call that writes a packet hands them.
 
 // Goes along the entries once: the octets of the bodies of packet n's first b frames, and the place of each one's entry.
 fn pick(
@@ -35,13 +38,11 @@ fn pick(
     let mut at: usize = 0;
     let mut skip = n;
     let mut size: usize = 0;
-    let mut k: usize = 0;
-    while k < b {
-        at = at + entries::seek(vocoder, &entries[at..], skip);
+    for k in 0..b {
+        at += entries::seek(vocoder, &entries[at..], skip);
         places[k] = at;
-        size = size + frame::body_size(vocoder, entries[at] % 64);
+        size += frame::body_size(vocoder, entries[at] % 64);
         skip = l + 1;
-        k = k + 1;
     }
     size
 }
@@ -62,17 +63,14 @@ fn write_table(
     ensures { out.new
         ≡ over out.old 1 (toc_of d (types_of (packet_frames l n b (group_in (kind_of vocoder) entries.now)))) }
 {
-    let mut k: usize = 0;
-    while k < b {
-        let at = places[k];
-        let kind = entries[at] % 64;
+    for k in 0..b {
+        let kind = entries[places[k]] % 64;
         let next = k + 1;
         if next < b {
             out[next] = 128 + d * 64 + kind;
         } else {
             out[next] = d * 64 + kind;
         }
-        k = next;
     }
 }
 
@@ -93,14 +91,12 @@ fn write_bodies(
         ≡ over out.old (1 + b) (bodies_of (packet_frames l n b (group_in (kind_of vocoder) entries.now))) }
 {
     let mut to = 1 + b;
-    let mut k: usize = 0;
-    while k < b {
+    for k in 0..b {
         let at = places[k];
         let start = at + 1;
         let end = start + frame::body_size(vocoder, entries[at] % 64);
         octets::copy(out, to, &entries[start..end]);
-        to = to + (end - start);
-        k = k + 1;
+        to += end - start;
     }
 }
 
@@ -113,34 +109,30 @@ fn write_group(
     d: u8,
     entries: &[u8],
     out: &mut [u8],
-) -> Written
+) -> Result<usize, Refusal>
     requires { (l ≤ 7) × (n ≤ l) × (1 ≤ b) × (b ≤ 10) × (d ≤ 1) }
     ensures { Writes (packet_of_group l n b d (entries_in (kind_of vocoder) Rule.Sendable entries.now)) out.old result out.new }
 {
-    let held = entries::count(vocoder, Rule::Sendable, entries, 0);
-    match held {
-        Counted::Refused(r) => Written::Refused(r),
-        Counted::Frames(count) => {
-            let step = l as usize;
-            let index = n as usize;
-            let bundle = b as usize;
-            if count != (step + 1) * bundle {
-                return Written::Refused(Refusal::NotSendable);
-            }
-            let mut places = [0usize; 10];
-            let size = 1 + bundle + pick(vocoder, step, index, bundle, entries, &mut places);
-            if out.len() < size {
-                return Written::Refused(Refusal::NoRoom);
-            }
-            out[0] = l * 8 + n;
-            write_table(vocoder, out, step, index, bundle, d, entries, &places);
-            write_bodies(vocoder, out, step, index, bundle, entries, &places);
-            Written::Octets(size)
-        }
+    let count = entries::count(vocoder, Rule::Sendable, entries, 0)?;
+    let step = l as usize;
+    let index = n as usize;
+    let bundle = b as usize;
+    if count != (step + 1) * bundle {
+        return Err(Refusal::NotSendable);
     }
+    let mut places = [0usize; 10];
+    let size = 1 + bundle + pick(vocoder, step, index, bundle, entries, &mut places);
+    if out.len() < size {
+        return Err(Refusal::NoRoom);
+    }
+    out[0] = l * 8 + n;
+    write_table(vocoder, out, step, index, bundle, d, entries, &places);
+    write_bodies(vocoder, out, step, index, bundle, entries, &places);
+    Ok(size)
 }
 
 // Packet n under limits in range: 2, 3, 6, then the group.
+#[tactic(auto, unfolding(crate::specs::Writing::packet_within, answers::specs::Outputs::written_of, answers::specs::Outputs::out_after))]
 fn write_within(
     vocoder: Vocoder,
     limits: Limits,
@@ -150,26 +142,24 @@ fn write_within(
     d: u8,
     entries: &[u8],
     out: &mut [u8],
-) -> Written
+) -> Result<usize, Refusal>
     requires { (limits.max_l ≤ 7) × (limits.max_b ≤ 10) × (d ≤ 1) }
     ensures { Writes (packet_within (kind_of vocoder) limits l n b d entries.now) out.old result out.new }
 {
     if l < n {
-        return Written::Refused(Refusal::IndexPastLength);
+        return Err(Refusal::IndexPastLength);
     }
     if limits.max_l < l {
-        return Written::Refused(Refusal::LengthPastMaximum);
+        return Err(Refusal::LengthPastMaximum);
     }
-    if b < 1 {
-        return Written::Refused(Refusal::BundleOutOfRange);
-    }
-    if limits.max_b < b {
-        return Written::Refused(Refusal::BundleOutOfRange);
+    if b < 1 || limits.max_b < b {
+        return Err(Refusal::BundleOutOfRange);
     }
     write_group(vocoder, l, n, b, d, entries, out)
 }
 
 // Packet N of a group under limits: 21 for limits out of range, 2, 3, 6; then the entries are judged and packed.
+#[tactic(auto, unfolding(crate::specs::Writing::packet_made, form::specs::Agreed::opened, answers::specs::Outputs::written_of, answers::specs::Outputs::out_after))]
 fn write_interleaved(
     vocoder: Vocoder,
     limits: Limits,
@@ -179,27 +169,31 @@ fn write_interleaved(
     d: u8,
     entries: &[u8],
     out: &mut [u8],
-) -> Written
+) -> Result<usize, Refusal>
     ensures { Writes (packet_made (kind_of vocoder) (Interleaved limits) l n b d entries.now) out.old result out.new }
 {
-    let opened = Limits::open(limits.max_l, limits.max_b);
-    match opened {
-        Opened::Refused(r) => Written::Refused(r),
-        Opened::Agreed(agreed) => {
-            if 1 < d {
-                return Written::Refused(Refusal::NotApplicable);
-            }
-            write_within(vocoder, agreed, l, n, b, d, entries, out)
-        }
+    let agreed = Limits::open(limits.max_l, limits.max_b)?;
+    if 1 < d {
+        return Err(Refusal::NotApplicable);
     }
+    write_within(vocoder, agreed, l, n, b, d, entries, out)
 }
 
 // Writes packet n of an interleave group: octet 0, the table of contents and the bodies.
-pub fn write(form: Form, l: u8, n: u8, b: u8, d: u8, entries: &[u8], out: &mut [u8]) -> Written
+#[tactic(auto, unfolding(crate::specs::Writing::packet_made, answers::specs::Outputs::written_of, answers::specs::Outputs::out_after))]
+pub fn write(
+    form: Form,
+    l: u8,
+    n: u8,
+    b: u8,
+    d: u8,
+    entries: &[u8],
+    out: &mut [u8],
+) -> Result<usize, Refusal>
     ensures { Writes (packet_made (kind_of (vocoder_of form)) form l n b d entries.now) out.old result out.new }
 {
     match form {
-        Form::HeaderFree => Written::Refused(Refusal::NotApplicable),
+        Form::HeaderFree => Err(Refusal::NotApplicable),
         Form::Interleaved(limits) => write_interleaved(
             Vocoder::Evrc,
             limits,
@@ -214,7 +208,14 @@ pub fn write(form: Form, l: u8, n: u8, b: u8, d: u8, entries: &[u8], out: &mut [
 }
 
 // The same in the form that is agreed where none is named.
-pub fn write_agreed(l: u8, n: u8, b: u8, d: u8, entries: &[u8], out: &mut [u8]) -> Written
+pub fn write_agreed(
+    l: u8,
+    n: u8,
+    b: u8,
+    d: u8,
+    entries: &[u8],
+    out: &mut [u8],
+) -> Result<usize, Refusal>
     ensures { Writes (packet_made (kind_of (vocoder_of default_form)) default_form l n b d entries.now) out.old result out.new }
 {
     let form = Form::Interleaved(Limits::agreed());
@@ -222,32 +223,28 @@ pub fn write_agreed(l: u8, n: u8, b: u8, d: u8, entries: &[u8], out: &mut [u8]) 
 }
 
 // The body of the one entry.
-fn write_body(vocoder: Vocoder, entries: &[u8], out: &mut [u8]) -> Written
+fn write_body(vocoder: Vocoder, entries: &[u8], out: &mut [u8]) -> Result<usize, Refusal>
     ensures { Writes (one_body (entries_in (kind_of vocoder) Rule.HeaderFree entries.now)) out.old result out.new }
 {
-    let held = entries::count(vocoder, Rule::HeaderFree, entries, 0);
-    match held {
-        Counted::Refused(r) => Written::Refused(r),
-        Counted::Frames(count) => {
-            if count != 1 {
-                return Written::Refused(Refusal::NotSendable);
-            }
-            let body = entries.len() - 1;
-            if out.len() < body {
-                return Written::Refused(Refusal::NoRoom);
-            }
-            octets::copy(out, 0, &entries[1..]);
-            Written::Octets(body)
-        }
+    let count = entries::count(vocoder, Rule::HeaderFree, entries, 0)?;
+    if count != 1 {
+        return Err(Refusal::NotSendable);
     }
+    let body = &entries[1..];
+    if out.len() < body.len() {
+        return Err(Refusal::NoRoom);
+    }
+    octets::copy(out, 0, body);
+    Ok(body.len())
 }
 
 // Writes a header-free packet: the body of one frame, and nothing else.
-pub fn write_header_free(form: Form, entries: &[u8], out: &mut [u8]) -> Written
+#[tactic(auto, unfolding(crate::specs::Writing::header_free_made, answers::specs::Outputs::written_of, answers::specs::Outputs::out_after))]
+pub fn write_header_free(form: Form, entries: &[u8], out: &mut [u8]) -> Result<usize, Refusal>
     ensures { Writes (header_free_made (kind_of (vocoder_of form)) form entries.now) out.old result out.new }
 {
     match form {
-        Form::Interleaved(_) => Written::Refused(Refusal::NotApplicable),
+        Form::Interleaved(_) => Err(Refusal::NotApplicable),
         Form::HeaderFree => write_body(Vocoder::Evrc, entries, out),
     }
 }

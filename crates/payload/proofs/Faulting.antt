@@ -1,4 +1,5 @@
 -- Where a payload that is refused is at fault, and what stands before that place. Assumes nothing.
+use Rattle.std.proofs.Common.{Option, Some, None}
 use Prim.Native.Nat.{ℕ, zero, suc, ◌+◌, ◌≤◌, ◌<◌}
 use mathlib.Core.Path.{◌≡◌, refl, sym, ap, subst, ◌∙◌}
 use mathlib.Core.List.{List, [], ◌∷◌, ◌++◌, append_assoc}
@@ -13,14 +14,12 @@ use borrow.Author.Tests.{leb-true, leb-false, ltb-true, ltb-false, lt-ltb, le-lt
 use Rattle.octets.proofs.Logic.{apart}
 use Rattle.frame.specs.FrameTable.{FrameTable, known, size, row_of_size}
 use Rattle.frame.specs.Entry.{type_of, d_of, more}
+use Rattle.frame.specs.declared.Row.{Row}
 use Rattle.form.specs.Agreed.{in_range}
 use Rattle.form.specs.declared.Limits.{Limits}
 use Rattle.form.specs.declared.Form.{Form}
 use Rattle.form.specs.declared.Form.TheVariants.{HeaderFree, Interleaved}
-use Rattle.frame.specs.declared.Lookup.{Lookup}
-use Rattle.frame.specs.declared.Lookup.TheVariants.{Found, Missing}
 use Rattle.answers.specs.Answers.{number_of, place_of}
-use Rattle.answers.specs.declared.Place.TheVariants.{Nowhere}
 use Rattle.answers.specs.declared.Refusal.{Refusal}
 use Rattle.answers.specs.declared.Refusal.TheVariants.{NoOctet, IndexPastLength, LengthPastMaximum, TableCut, ReservedType, TooManyFrames, BodiesCut, OctetsLeft}
 use Rattle.answers.specs.declared.Refusal.TheVariants.{HeaderFreeLength, NotApplicable}
@@ -168,7 +167,7 @@ pub record Tabled (v : FrameTable) (f : Form) (p ts : List ℕ) (behind : ℕ) (
 
 -- how a payload is refused
 pub data Faulted (v : FrameTable) (f : Form) (p : List ℕ) : Refusal → Type 0 where
-  unplaced : (r : Refusal) → place_of r ≡ Nowhere → eqb (number_of r) 12 ≡ false → Faulted v f p r
+  unplaced : (r : Refusal) → place_of r ≡ None → eqb (number_of r) 12 ≡ false → Faulted v f p r
   cut_table : (i : ℕ) → i ≡ length p → Cuts v f p i → Faulted v f p (TableCut i)
   reserved : (i : ℕ) → i < length p → Cuts v f p i → known v (type_of (get_or p i 0)) ≡ false → Faulted v f p (ReservedType i)
   full : (i : ℕ) → i < length p → Cuts v f p i → ((m : Limits) → f ≡ Interleaved m → i ≡ 1 + m.max_b) → Faulted v f p (TooManyFrames i)
@@ -178,7 +177,7 @@ pub data Faulted (v : FrameTable) (f : Form) (p : List ℕ) : Refusal → Type 0
       → Faulted v f p (OctetsLeft i)
 
 module _ (v : FrameTable) (f : Form) where
-  not-placed : (p : List ℕ) (q r : Refusal) → place_of q ≡ Nowhere → eqb (number_of q) 12 ≡ false → refused_payload q ≡ refused_payload r → Faulted v f p r
+  not-placed : (p : List ℕ) (q r : Refusal) → place_of q ≡ None → eqb (number_of q) 12 ≡ false → refused_payload q ≡ refused_payload r → Faulted v f p r
   not-placed p q r n m e = let s : q ≡ r = cc in subst (Faulted v f p) s (unplaced q n m)
 
   -- octet 0 is passed
@@ -241,9 +240,9 @@ pub faulted : (v : FrameTable) (f : Form) (p : List ℕ) (r : Refusal) → read_
 unfolding read_as interleaved one_body
 faulted v HeaderFree p r e = go (row_of_size v (length p)) e
   where
-    go : (l : Lookup) → one_body l p ≡ refused_payload r → Faulted v HeaderFree p r
-    go Missing k = not-placed v HeaderFree p HeaderFreeLength r refl refl k
-    go (Found row) k = apart (cc)
+    go : (l : Option Row) → one_body l p ≡ refused_payload r → Faulted v HeaderFree p r
+    go None k = not-placed v HeaderFree p HeaderFreeLength r refl refl k
+    go (Some row) k = apart (cc)
 faulted v (Interleaved m) [] r e = go (in_range m) e
   where
     go : (g : Bool) → cond g (refused_payload NoOctet) (refused_payload NotApplicable) ≡ refused_payload r → Faulted v (Interleaved m) [] r

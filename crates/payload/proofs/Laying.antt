@@ -1,4 +1,5 @@
 -- Where the frames of a payload that was read lie. Assumes nothing.
+use Rattle.std.proofs.Common.{Option, Some, None, Err}
 use Prim.Native.Nat.{ℕ, zero, suc, ◌+◌, ◌-◌, ◌≤◌, ◌<◌}
 use mathlib.Core.Path.{◌≡◌, refl, sym, ap, ap₂, subst, ◌∙◌}
 use mathlib.Core.List.{List, [], ◌∷◌, map}
@@ -10,20 +11,18 @@ use lib.ListN.{length, take, drop, get_or, length-drop, length-map, length-take,
 use lib.Seq.{length-take-le, take-take, get_or-take, drop-drop, get_or-drop, take_all}
 use lib.Dec.{T, ltb}
 use borrow.Author.Tests.{ltb-false}
+use Rattle.answers.proofs.Exits.{same_ok}
 use Rattle.octets.proofs.Logic.{apart}
 use Rattle.octets.proofs.OctetsLaws.{part-is}
 use Rattle.frame.specs.FrameTable.{FrameTable, Frame, size, within, row_of_size}
-use Rattle.frame.specs.Places.{taken, frame_at, located_of}
+use Rattle.frame.specs.Places.{taken, frame_at, located_of, lies_at}
 use Rattle.form.specs.Agreed.{in_range}
 use Rattle.form.specs.declared.Limits.{Limits}
 use Rattle.frame.specs.declared.Row.{Row}
-use Rattle.frame.specs.declared.Lookup.{Lookup}
-use Rattle.frame.specs.declared.Lookup.TheVariants.{Found, Missing}
 use Rattle.form.specs.declared.Form.{Form}
 use Rattle.form.specs.declared.Form.TheVariants.{HeaderFree, Interleaved}
 use Rattle.answers.specs.declared.Refusal.{Refusal}
-use Rattle.answers.specs.declared.Refusal.TheVariants.{NotApplicable, HeaderFreeLength}
-use Rattle.frame.specs.declared.Located.TheVariants as located
+use Rattle.answers.specs.declared.Refusal.TheVariants.{NotApplicable}
 use Rattle.form.proofs.AgreedLaws.{range-bounds}
 use Rattle.frame.proofs.PlacesLaws.{Laid, LaidIn, asked-refused, asked-past, asked}
 use Rattle.frame.specs.Entry.{type_of}
@@ -31,8 +30,8 @@ use Rattle.frame.proofs.FrameTableLaws.{size-within}
 use Rattle.bundle.proofs.LaidOutLaws.{Short}
 use Rattle.payload.specs.Payload.{Reading, packet, refused_payload, Toc, contents, fault, toc, total, cut, bodies, interleaved}
 use Rattle.payload.specs.Payload.{one_body, read_as, l_of, n_of}
-use Rattle.payload.specs.Shown.{contents_of, given_of, given_as}
-use Rattle.payload.specs.declared.Contents.TheVariants.{Packet, Refused}
+use Rattle.payload.specs.Shown.{contents_of, given_of, given_as, holds_packet}
+use Rattle.payload.specs.declared.Contents.{Contents}
 use Rattle.payload.proofs.Tables.{Whole, Sound, toc-sound}
 use Rattle.payload.proofs.Checks.{length_cut}
 
@@ -284,30 +283,30 @@ module _ (v : FrameTable) (p : List ℕ) (b : ℕ) where
         }
 
 -- ---- frame k is asked of a type 1 payload
-pub show-refused : (f : Form) (w : Reading) (k : ℕ) (r : Refusal) → Refused r ≡ contents_of w → located.Refused r ≡ located_of (given_of f w) k
+pub show-refused : (f : Form) (w : Reading) (k : ℕ) (r : Refusal) → Err r ≡ contents_of w → Err r ≡ located_of (given_of f w) k
 unfolding contents_of given_of
-show-refused f (refused_payload x) k r e = let q : r ≡ x = cc in ap located.Refused q ∙ asked-refused x k
+show-refused f (refused_payload x) k r e = let q : r ≡ x = cc in ap Err q ∙ asked-refused x k
 show-refused f (packet l n d fs) k r e = apart (cc)
 
-pub show-past : (f : Form) (w : Reading) (k l n b d : ℕ) → Packet l n b d ≡ contents_of w → b ≤ k → located.Refused NotApplicable ≡ located_of (given_of f w) k
+pub show-past : (f : Form) (w : Reading) (k l n b d : ℕ) → holds_packet l n b d ≡ contents_of w → b ≤ k → Err NotApplicable ≡ located_of (given_of f w) k
 unfolding contents_of given_of
 show-past f (refused_payload x) k l n b d e h = apart (cc)
-show-past f (packet l' n' d' fs) k l n b d e h = let q : b ≡ length fs = cc in asked-past _ _ fs k (omega arith)
+show-past f (packet l' n' d' fs) k l n b d e h = let q = ap (λ (c : Contents). c.b) (same_ok _ _ e) in asked-past _ _ fs k (omega (arith, q))
 
 pub record Shows (v : FrameTable) (m : Limits) (p : List ℕ) (k b : ℕ) : Type 0 where
-  pub place : located.At (type_in p k) (1 + b + before v p k) (size v (type_in p k)) ≡ located_of (given_as v (Interleaved m) p) k
+  pub place : lies_at (type_in p k) (1 + b + before v p k) (size v (type_in p k)) ≡ located_of (given_as v (Interleaved m) p) k
   pub entry : k + 1 < length p
   pub few : b ≤ 10
   pub inside : 1 + b + before v p k ≤ length p
 
-pub shows : (v : FrameTable) (m : Limits) (p : List ℕ) (k l n b d : ℕ) → Packet l n b d ≡ contents_of (read_as v (Interleaved m) p) → k < b → Shows v m p k b
+pub shows : (v : FrameTable) (m : Limits) (p : List ℕ) (k l n b d : ℕ) → holds_packet l n b d ≡ contents_of (read_as v (Interleaved m) p) → k < b → Shows v m p k b
 unfolding contents_of given_of given_as
 shows v m p k l n b d e h = go (read_as v (Interleaved m) p) refl e
   where
-    go : (w : Reading) → read_as v (Interleaved m) p ≡ w → Packet l n b d ≡ contents_of w → Shows v m p k b
+    go : (w : Reading) → read_as v (Interleaved m) p ≡ w → holds_packet l n b d ≡ contents_of w → Shows v m p k b
     go (refused_payload f) q x = apart (cc)
     go (packet l' n' d' fs) q x =
-        let c : b ≡ length fs = cc in
+        let c : b ≡ length fs = ap (λ (c : Contents). c.b) (same_ok _ _ x) in
         let h' : k < length fs = omega arith in
         let o = framed v m p l' n' d' fs q in
         let s = stands v m p l' n' d' fs k o h' in
@@ -319,25 +318,11 @@ shows v m p k l n b d e h = go (read_as v (Interleaved m) p) refl e
           inside = omega (arith, s.inside);
         }
 
--- ---- frame k is asked of a type 2 payload
-pub free-refused : (v : FrameTable) (p : List ℕ) (k : ℕ) → row_of_size v (length p) ≡ Missing → located.Refused HeaderFreeLength ≡ located_of (given_as v HeaderFree p) k
-unfolding read_as one_body given_of given_as
-free-refused v p k e = rw e (asked-refused HeaderFreeLength k)
-
-module _ (v : FrameTable) (p : List ℕ) (k : ℕ) (r : Row) (e : row_of_size v (length p) ≡ Found r) where
-  pub free-past : 0 < k → located.Refused NotApplicable ≡ located_of (given_as v HeaderFree p) k
-  unfolding read_as one_body given_of given_as
-  free-past h = rw e (asked-past 0 0 _ k (omega arith))
-
-  pub free-frame : k ≤ 0 → located.At r.kind 0 (length p) ≡ located_of (given_as v HeaderFree p) k
-  unfolding read_as one_body given_of given_as
-  free-frame h = let z : k ≡ 0 = omega arith in rw (e, z) (asked 0 0 (record { type = r.kind; body = p } ∷ []) 0 (omega arith))
-
 -- ---- what a payload gives lies in it
-free-laid : (l : Lookup) (p : List ℕ) → LaidIn p (given_of HeaderFree (one_body l p))
+free-laid : (l : Option Row) (p : List ℕ) → LaidIn p (given_of HeaderFree (one_body l p))
 unfolding given_of one_body
-free-laid Missing p = tt
-free-laid (Found r) p = (take_all (length p) p (omega arith), omega arith, tt)
+free-laid None p = tt
+free-laid (Some r) p = (take_all (length p) p (omega arith), omega arith, tt)
 
 in-laid : (v : FrameTable) (m : Limits) (p : List ℕ) (w : Reading) → read_as v (Interleaved m) p ≡ w → LaidIn p (given_of (Interleaved m) w)
 unfolding given_of

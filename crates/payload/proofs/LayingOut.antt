@@ -1,4 +1,5 @@
 -- The frames of a payload, laid out as a packet. Assumes nothing.
+use Rattle.std.proofs.Common.{Some, None}
 use Prim.Native.Nat.{ℕ, ◌+◌, ◌*◌, ◌≤◌}
 use mathlib.Core.Path.{◌≡◌, refl, sym, ap, ap₂, ◌∙◌}
 use mathlib.Core.List.{List, [], ◌∷◌, map}
@@ -12,11 +13,9 @@ use Rattle.octets.proofs.Logic.{apart}
 use Rattle.octets.proofs.OctetsLaws.{over-whole}
 use Rattle.frame.specs.FrameTable.{FrameTable, Frame, row_of_size, within, single, erasure}
 use Rattle.frame.specs.declared.Row.{Row}
-use Rattle.frame.specs.declared.Lookup.TheVariants.{Found, Missing}
 use Rattle.frame.specs.Entry.{type_of}
 use Rattle.frame.specs.Places.{taken}
 use Rattle.frame.specs.Shape.{Shape, room_of}
-use Rattle.answers.specs.declared.Refusal.{Refusal}
 use Rattle.form.specs.declared.Limits.{Limits}
 use Rattle.form.specs.declared.Form.TheVariants.{HeaderFree, Interleaved}
 use Rattle.bundle.specs.declared.Bundle.{Bundle}
@@ -24,8 +23,9 @@ use Rattle.bundle.specs.Bundles.{bundle_in, not_held}
 use Rattle.bundle.specs.LaidOut.{laid}
 use Rattle.bundle.proofs.LaidOutLaws.{Short, listed-short, LaidFirst, laid_none, laid_more, laid-all}
 use Rattle.payload.specs.Payload.{Reading, packet, refused_payload, total, cut, one_body, read_as}
-use Rattle.payload.specs.Shown.{contents_of, frames_read}
-use Rattle.payload.specs.declared.Contents.TheVariants.{Packet, Refused}
+use Rattle.payload.specs.Shown.{contents_of, frames_read, holds_packet}
+use Rattle.answers.proofs.Exits.{same_ok}
+use Rattle.payload.specs.declared.Contents.{Contents}
 use Rattle.payload.proofs.Laying.{framesAlong, framed, filled, cut-taken}
 use Rattle.payload.proofs.Checks.{length_cut}
 use Rattle.payload.proofs.Readings.{read_is}
@@ -51,15 +51,10 @@ pub laid-empty : (u : Shape) (fs : List Frame) → length fs ≡ 0 → not_held 
 laid-empty u fs e = laid-all u fs 0 (not_held u).marks (not_held u).room (omega arith) (laid_none u fs)
 
 -- how many frames were read
-pub packet-many : (w : Reading) (l n b d : ℕ) → Packet l n b d ≡ contents_of w → b ≡ length (frames_read w)
+pub packet-many : (w : Reading) (l n b d : ℕ) → holds_packet l n b d ≡ contents_of w → b ≡ length (frames_read w)
 unfolding contents_of frames_read
-packet-many (packet l' n' d' fs) l n b d e = cc
+packet-many (packet l' n' d' fs) l n b d e = ap (λ (c : Contents). c.b) (same_ok _ _ e)
 packet-many (refused_payload r) l n b d e = apart (cc)
-
-pub refused_none : (w : Reading) (r : Refusal) → Refused r ≡ contents_of w → 0 ≡ length (frames_read w)
-unfolding contents_of frames_read
-refused_none (packet l n d fs) r e = apart (cc)
-refused_none (refused_payload r') r e = refl
 
 -- the frames of a type 1 payload that was read are those along its entries and bodies
 pub record ReadAlong (v : FrameTable) (p : List ℕ) (b : ℕ) (fs : List Frame) : Type 0 where
@@ -98,11 +93,11 @@ read-fills v m p l n d fs e =
 
 -- ---- the one frame of a header-free payload, if it has one
 module _ (v : FrameTable) (u : Shape) (p ms rs : List ℕ) (e : bundle_in ms rs ≡ not_held u) where
-  pub free-none : row_of_size v (length p) ≡ Missing → bundle_in ms rs ≡ laid u (frames_read (read_as v HeaderFree p))
+  pub free-none : row_of_size v (length p) ≡ None → bundle_in ms rs ≡ laid u (frames_read (read_as v HeaderFree p))
   unfolding read_as one_body frames_read
   free-none q = e ∙ rw q (laid-empty u [] refl)
 
-  module _ (one : T (single v v)) (w : T (within u.cell v)) (r : Row) (q : row_of_size v (length p) ≡ Found r) where
+  module _ (one : T (single v v)) (w : T (within u.cell v)) (r : Row) (q : row_of_size v (length p) ≡ Some r) where
     -- it fits a cell
     free-short : Short u.cell (record { type = r.kind; body = p } ∷ [])
     unfolding read_as one_body

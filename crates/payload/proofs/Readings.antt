@@ -1,4 +1,5 @@
 -- What is known of a payload that was read as a packet, in either form. Assumes nothing.
+use Rattle.std.proofs.Common.{Option, Some, None}
 use Prim.Native.Nat.{ℕ, ◌+◌, ◌≤◌, ◌<◌}
 use mathlib.Core.Path.{◌≡◌, refl, sym, ap, subst}
 use mathlib.Core.List.{List, [], ◌∷◌}
@@ -10,9 +11,8 @@ use lib.Dec.{T, eqb, leb}
 use Rattle.octets.proofs.Logic.{apart}
 use Rattle.frame.specs.FrameTable.{FrameTable, Frame, known, size, row_with, row_of_size, single, AllListed}
 use Rattle.frame.specs.Entry.{type_of, more}
+use Rattle.frame.specs.declared.Row.{Row}
 use Rattle.form.specs.declared.Limits.{Limits}
-use Rattle.frame.specs.declared.Lookup.{Lookup}
-use Rattle.frame.specs.declared.Lookup.TheVariants.{Found, Missing}
 use Rattle.form.specs.declared.Form.{Form}
 use Rattle.form.specs.declared.Form.TheVariants.{HeaderFree, Interleaved}
 use Rattle.frame.proofs.FrameTableLaws.{size-listed}
@@ -76,10 +76,17 @@ interleaved-is v m p l n d fs o =
       listed = subst (AllListed v) (sym o.frames) (cut-listed v o.ts o.rest k (omega (arith, o.full)));
     }
 
-one-is : (v : FrameTable) (p : List ℕ) → T (single v v) → (w : Lookup) → row_of_size v (length p) ≡ w → (l n d : ℕ) (fs : List Frame) → one_body w p ≡ packet l n d fs → IsPacket v l n fs
+one-is :
+    (v : FrameTable) (p : List ℕ) →
+    T (single v v) →
+    (w : Option Row) →
+    row_of_size v (length p) ≡ w →
+    (l n d : ℕ) (fs : List Frame) →
+    one_body w p ≡ packet l n d fs →
+    IsPacket v l n fs
 unfolding one_body
-one-is v p s Missing q l n d fs e = apart (cc)
-one-is v p s (Found r) q l n d fs e =
+one-is v p s None q l n d fs e = apart (cc)
+one-is v p s (Some r) q l n d fs e =
     let x = size-listed v v (length p) r s (with_row (eqb (length p) 0) q) in
     let el : 0 ≡ l = cc in
     let en : 0 ≡ n = cc in
@@ -93,7 +100,7 @@ one-is v p s (Found r) q l n d fs e =
       listed = subst (AllListed v) ef (record { type_known = x.0; octets = sym x.1 }, tt);
     }
   where
-    with_row : (b : Bool) → cond b Missing (row_with v (length p)) ≡ Found r → row_with v (length p) ≡ Found r
+    with_row : (b : Bool) → cond b None (row_with v (length p)) ≡ Some r → row_with v (length p) ≡ Some r
     with_row true h = apart (cc)
     with_row false h = h
 

@@ -12,8 +12,8 @@ use Rattle.answers.specs.declared.Refusal.TheVariants.{TooManyFrames, ReservedTy
 use Rattle.octets.proofs.Logic.{apart}
 use Rattle.frame.specs.Entry.{type_of, d_of, more}
 use Rattle.payload.specs.Payload.{Toc, contents, fault, put, toc, total}
-use Rattle.payload.specs.Shown.{walked}
-use Rattle.payload.specs.declared.Walked.TheVariants as entries
+use Rattle.payload.specs.Shown.{walked, whole_table}
+use Rattle.payload.specs.declared.Walked.{Walked}
 
 -- the types are those of the first entries, the rest is what follows them, there are some and not too many; it begins as many octets
 -- behind the first entry as there are entries
@@ -82,12 +82,13 @@ pub record Counted (v : FrameTable) (max : ℕ) (es : List ℕ) (w : Toc) (c s d
   pub few : c ≤ max
   pub within : c ≤ length es
 
-counted-table : (v : FrameTable) (max : ℕ) (es : List ℕ) (w : Toc) (c s d : ℕ) → Sound max 0 1 es w → entries.Whole c s d ≡ walked v w → Counted v max es w c s d
+counted-table : (v : FrameTable) (max : ℕ) (es : List ℕ) (w : Toc) (c s d : ℕ) → Sound max 0 1 es w → whole_table c s d ≡ walked v w → Counted v max es w c s d
 unfolding walked
 counted-table v max es (fault r) c s d h e = apart (cc)
 counted-table v max es (contents ts d' behind rest) c s d h e =
-    let q : c ≡ length ts = cc in
-    let k : d' ≡ d = cc in
+    let w : ◌≡◌ {A = Walked} (record { count = c; size = s; d = d }) (record { count = length ts; size = total v ts; d = d' }) = cc in
+    let q : c ≡ length ts = ap (λ (x : Walked). x.count) w in
+    let k : d' ≡ d = sym (ap (λ (x : Walked). x.d) w) in
     record {
       ts = ts;
       behind = behind;
@@ -95,7 +96,7 @@ counted-table v max es (contents ts d' behind rest) c s d h e =
       is = ap (λ (x : ℕ). contents ts x behind rest) k;
       some = omega (arith, h.some);
       count = q;
-      octets = cc;
+      octets = ap (λ (x : Walked). x.size) w;
       types = h.types ∙ ap (λ (x : ℕ). take x (map type_of es)) (sym q);
       follow = h.follow ∙ ap (λ (x : ℕ). drop x es) (sym q);
       begins = h.begins ∙ ap (λ (x : ℕ). 1 + x) (sym q);
@@ -104,5 +105,5 @@ counted-table v max es (contents ts d' behind rest) c s d h e =
       within = omega (arith, h.within);
     }
 
-pub counted : (v : FrameTable) (max : ℕ) (es : List ℕ) (c s d : ℕ) → entries.Whole c s d ≡ walked v (toc v max 0 1 es) → Counted v max es (toc v max 0 1 es) c s d
+pub counted : (v : FrameTable) (max : ℕ) (es : List ℕ) (c s d : ℕ) → whole_table c s d ≡ walked v (toc v max 0 1 es) → Counted v max es (toc v max 0 1 es) c s d
 counted v max es c s d e = counted-table v max es (toc v max 0 1 es) c s d (toc-sound v max 0 1 es) e

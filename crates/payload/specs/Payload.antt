@@ -1,11 +1,10 @@
 -- Document 01, "Payloads": what a payload is read as, over any frame table.
-use Rattle.std.specs.Prelude.{ℕ, ◌+◌, ◌/◌, ◌%◌, List, [], ◌∷◌, cond, leb, ltb, length, take, drop}
+use Rattle.std.specs.Prelude.{ℕ, ◌+◌, ◌/◌, ◌%◌, List, [], ◌∷◌, cond, leb, ltb, length, take, drop, Option, Some, None}
 use Rattle.frame.specs.FrameTable.{FrameTable, Frame, known, size, row_of_size}
 use Rattle.frame.specs.Entry.{type_of, d_of, more}
+use Rattle.frame.specs.declared.Row.{Row}
 use Rattle.form.specs.Agreed.{in_range}
 use Rattle.form.specs.declared.Limits.{Limits}
-use Rattle.frame.specs.declared.Lookup.{Lookup}
-use Rattle.frame.specs.declared.Lookup.TheVariants.{Found, Missing}
 use Rattle.form.specs.declared.Form.{Form}
 use Rattle.form.specs.declared.Form.TheVariants.{HeaderFree, Interleaved}
 use Rattle.answers.specs.declared.Refusal.{Refusal}
@@ -87,9 +86,9 @@ interleaved v m (h ∷ es) =
     (bodies v (l_of h) (n_of h) (toc v m.max_b 0 1 es)))
 
 -- Type 2: "one body and nothing else, its type known by the length"; "read as a group with L = 0, N = 0, B = 1, and D is reported as 0"
-unfoldable pub one_body : Lookup → List ℕ → Reading
-one_body Missing p = refused_payload HeaderFreeLength
-one_body (Found r) p = packet 0 0 0 (record { type = r.kind; body = p } ∷ [])
+unfoldable pub one_body : Option Row → List ℕ → Reading
+one_body None p = refused_payload HeaderFreeLength
+one_body (Some r) p = packet 0 0 0 (record { type = r.kind; body = p } ∷ [])
 
 -- a payload read in the agreed form; "a reader given maxima out of range answers 21 first"
 unfoldable pub read_as : FrameTable → Form → List ℕ → Reading

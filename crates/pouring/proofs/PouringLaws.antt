@@ -2,7 +2,7 @@
 use Prim.Native.Nat.{ℕ, zero, suc, ◌+◌, ◌-◌, ◌*◌, ◌≤◌, ◌<◌}
 use mathlib.Core.Bool.{true, false}
 use mathlib.Core.Path.{◌≡◌, refl, sym, ap, ap₂, subst, ◌∙◌}
-use mathlib.Core.List.{List, [], ◌∷◌, ◌++◌, append_assoc, append-nil}
+use mathlib.Core.List.{List, [], ◌∷◌, ◌++◌, map, append_assoc, append-nil}
 use mathlib.Core.Logic.{⊎_elim}
 use native.Mathlib.Numerals.{add-one}
 use native.Mathlib.Nat.{zero-mul, suc-mul, mul-le-mul_right, zero-add, le_refl, eq-or-lt_of_le, le_of_suc-le-suc}
@@ -10,13 +10,15 @@ use native.Mathlib.Omega.{arith}
 use lib.ListN.{length, take, drop, get_or, set, length-append, length-take, length-drop, get_or-append}
 use lib.Seq.{get_or-append-add, get_or-take, get_or-drop, take-take, drop-drop}
 use lib.Dec.{T}
+use Rattle.std.specs.List.{sum, range_with_len}
+use Rattle.std.proofs.lemmas.List.FromFn.{sum_by-map-range_with_len_more}
 use Rattle.octets.specs.Octets.{over, region}
 use Rattle.octets.proofs.OctetsLaws.{over-append, over_nothing, set-over, part-is, drop-take}
 use Rattle.octets.proofs.Regions.{region-fits, length-region}
-use Rattle.frame.specs.FrameTable.{FrameTable, Frame, size, within}
+use Rattle.frame.specs.FrameTable.{FrameTable, Frame, size, within, rows_of}
 use Rattle.frame.specs.Shape.{Voice, packets_of, room_of, shape_of}
 use Rattle.frame.specs.declared.Vocoder.{Vocoder}
-use Rattle.frame.proofs.FrameTableLaws.{size-within}
+use Rattle.frame.proofs.FrameTableLaws.{size-within, body-small}
 use Rattle.entries.specs.Entries.{entries_of}
 use Rattle.frame.specs.Places.{up_to, frame_at, no_frame}
 use Rattle.frame.proofs.PlacesLaws.{length-upTo, upTo-at}
@@ -65,7 +67,7 @@ module _ (v : Vocoder) (c n k : ℕ) (e : c ≡ (shape_of v).cell) (p : n < pack
   cell-low = omega (arith, cell-fits, packet-there.1)
 
 -- ---- sizes
-pub row-size-more : (t : FrameTable) (ms : List ℕ) (k m s z : ℕ) → k < 10 → s ≡ row_size t ms k m → z ≡ size t (get_or ms (10 * m + k) 0) → s + 1 + z ≡ row_size t ms k (m + 1)
+pub row-size-more : (t : FrameTable) (ms : List ℕ) (k m s z : ℕ) → k < 10 → s ≡ row_size t ms k m → z ≡ size t (get_or ms (10 * m + k) 0) → s + (1 + z) ≡ row_size t ms k (m + 1)
 unfolding row_size
 row-size-more t ms k m s z h e f =
     let q : row_size t ms k (m + 1) ≡ row_size t ms k m + 1 + size t (type_in ms m k) = rw (add-one m) in
@@ -75,6 +77,36 @@ row-size-more t ms k m s z h e f =
 pub rows-size-more : (t : FrameTable) (ms : List ℕ) (m b s z : ℕ) → s ≡ rows_size t ms m b → z ≡ row_size t ms b m → s + z ≡ rows_size t ms m (b + 1)
 unfolding rows_size
 rows-size-more t ms m b s z e f = rw (add-one b, e, f)
+
+-- the same as sums, and how large they are
+pub row-size-sum : (t : FrameTable) (ms : List ℕ) (k m : ℕ) → k < 10 → sum (map (λ (n : ℕ). 1 + size t (get_or ms (10 * n + k) 0)) (range_with_len 0 m)) ≡ row_size t ms k m
+unfolding row_size
+row-size-sum t ms k zero h = refl
+row-size-sum t ms k (suc m) h =
+    let f : ℕ → ℕ = λ n. 1 + size t (get_or ms (10 * n + k) 0) in
+    ap (λ (j : ℕ). sum (map f (range_with_len 0 j))) (sym (add-one m))
+    ∙ sum_by-map-range_with_len_more (λ (x : ℕ). x) f 0 m m (omega arith)
+    ∙ row-size-more t ms k m _ _ h (row-size-sum t ms k m h) refl
+    ∙ ap (row_size t ms k) (add-one m)
+
+pub row-size-few : (v : Vocoder) (ms : List ℕ) (k m : ℕ) → row_size (rows_of v) ms k m ≤ 256 * m
+unfolding row_size
+row-size-few v ms k zero = omega arith
+row-size-few v ms k (suc m) = omega (arith, row-size-few v ms k m, body-small v (type_in ms m k))
+
+pub rows-size-sum : (t : FrameTable) (ms : List ℕ) (m b : ℕ) → sum (map (λ (k : ℕ). row_size t ms k m) (range_with_len 0 b)) ≡ rows_size t ms m b
+unfolding rows_size
+rows-size-sum t ms m zero = refl
+rows-size-sum t ms m (suc b) =
+    let f : ℕ → ℕ = λ k. row_size t ms k m in
+    ap (λ (j : ℕ). sum (map f (range_with_len 0 j))) (sym (add-one b))
+    ∙ sum_by-map-range_with_len_more (λ (x : ℕ). x) f 0 b b (omega arith)
+    ∙ ap (λ (s : ℕ). s + row_size t ms b m) (rows-size-sum t ms m b)
+
+pub rows-size-few : (v : Vocoder) (ms : List ℕ) (m b : ℕ) → m ≤ 8 → rows_size (rows_of v) ms m b ≤ 2048 * b
+unfolding rows_size
+rows-size-few v ms m zero h = omega arith
+rows-size-few v ms m (suc b) h = omega (arith, rows-size-few v ms m b h, row-size-few v ms b m)
 
 -- sizes grow with the packets, and with the rows
 grows : (t : FrameTable) (ms : List ℕ) (k i m : ℕ) → i < m → row_size t ms k i + 1 + size t (type_in ms i k) ≤ row_size t ms k m

@@ -37,7 +37,7 @@ rows_size table ms m (suc b) = rows_size table ms m b + row_size table ms b m
 
 -- all places of a holding
 abbrev pub in_time : Voice → Holding → List Frame
-in_time v h = rows v h.marks h.room (h.l + 1) h.b
+in_time v h = rows v h.marks h.room (h.numbers.l + 1) h.numbers.b
 
 -- "21 if it holds no packet", else its places as entries
 unfoldable pub poured : Voice → Holding → Made

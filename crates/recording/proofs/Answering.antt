@@ -1,4 +1,5 @@
 -- What the readers of a recording answer, and its writer. Assumes nothing.
+use Rattle.std.proofs.Common.{Ok, Err}
 use Prim.Native.Nat.{ℕ, ◌+◌, ◌≤◌, ◌<◌}
 use mathlib.Core.Path.{◌≡◌, refl, sym, ap, ◌∙◌}
 use mathlib.Core.List.{List, ◌++◌}
@@ -7,17 +8,15 @@ use native.Mathlib.Omega.{arith}
 use lib.ListN.{length, take, drop, get_or, length-append}
 use Rattle.octets.proofs.Logic.{apart}
 use Rattle.frame.specs.FrameTable.{Frame, size}
-use Rattle.frame.specs.Places.{taken, frame_at, located_of}
+use Rattle.frame.specs.Places.{taken, frame_at, located_of, lies_at}
 use Rattle.answers.specs.Outputs as outputs
 use Rattle.answers.specs.declared.Refusal.{Refusal}
 use Rattle.answers.specs.declared.Refusal.TheVariants.{NotApplicable, WrongOpening}
-use Rattle.frame.specs.declared.Located.TheVariants as located
 use Rattle.frame.proofs.PlacesLaws.{LaidIn, asked-refused, asked-past, asked}
 use Rattle.entries.specs.Kind.{Kind}
 use Rattle.entries.specs.Entries.{EntriesRead, frames, refused_entries, allowed, entries_from, entries_in, frames_in, cleared}
 use Rattle.entries.specs.Counting.{counted_of}
 use Rattle.entries.specs.declared.Rule.TheVariants.{Any}
-use Rattle.entries.specs.declared.Counted.TheVariants as counted
 use Rattle.entries.proofs.EntriesLaws.{entry_of, entries-laid}
 use Rattle.entries.proofs.Clearing.{entries-cleared, length-cleared, read-any}
 use Rattle.recording.specs.Recording.{opens_with, recording_read, recording_made}
@@ -29,7 +28,7 @@ module _ (kind : Kind) (p : List ℕ) where
   unfolding recording_read
   opened e = rw e
 
-  pub not_opened : opens_with kind p ≡ false → counted.Refused WrongOpening ≡ counted_of (recording_read kind p)
+  pub not_opened : opens_with kind p ≡ false → Err WrongOpening ≡ counted_of (recording_read kind p)
   unfolding recording_read counted_of
   not_opened e = rw e
 
@@ -45,12 +44,12 @@ module _ (kind : Kind) (p : List ℕ) where
   recorded-frames fs e = read-any kind Any (length kind.opening) (drop (length kind.opening) p) fs (recorded-from fs e)
 
 -- ---- frame k is asked for
-pub show-refused : (h : ℕ) (w : EntriesRead) (k : ℕ) (r : Refusal) → counted.Refused r ≡ counted_of w → located.Refused r ≡ located_of (given_of h w) k
+pub show-refused : (h : ℕ) (w : EntriesRead) (k : ℕ) (r : Refusal) → Err r ≡ counted_of w → Err r ≡ located_of (given_of h w) k
 unfolding counted_of given_of
-show-refused h (refused_entries f) k r e = let q : r ≡ f = cc in ap located.Refused q ∙ asked-refused f k
+show-refused h (refused_entries f) k r e = let q : r ≡ f = cc in ap Err q ∙ asked-refused f k
 show-refused h (frames fs) k r e = apart (cc)
 
-pub show-past : (h : ℕ) (w : EntriesRead) (k n : ℕ) → counted.Frames n ≡ counted_of w → n ≤ k → located.Refused NotApplicable ≡ located_of (given_of h w) k
+pub show-past : (h : ℕ) (w : EntriesRead) (k n : ℕ) → Ok n ≡ counted_of w → n ≤ k → Err NotApplicable ≡ located_of (given_of h w) k
 unfolding counted_of given_of
 show-past h (refused_entries f) k n e q = apart (cc)
 show-past h (frames fs) k n e q = let m : n ≡ length fs = cc in asked-past h 1 fs k (omega arith)
@@ -62,13 +61,13 @@ pub record There (kind : Kind) (p : List ℕ) (k : ℕ) : Type 0 where
   pub place :
       (at : ℕ) →
       at ≡ length kind.opening + taken 1 (take k (frames_in (entries_in kind Any (drop (length kind.opening) p)))) →
-      located.At (kind.type_of (get_or p at 0)) (at + 1) (size kind.table (kind.type_of (get_or p at 0))) ≡ located_of (given_in kind p) k
+      lies_at (kind.type_of (get_or p at 0)) (at + 1) (size kind.table (kind.type_of (get_or p at 0))) ≡ located_of (given_in kind p) k
 
-pub there : (kind : Kind) (p : List ℕ) (k n : ℕ) → counted.Frames n ≡ counted_of (recording_read kind p) → k < n → There kind p k
+pub there : (kind : Kind) (p : List ℕ) (k n : ℕ) → Ok n ≡ counted_of (recording_read kind p) → k < n → There kind p k
 unfolding counted_of given_of given_in frames_in
 there kind p k n q h = go (recording_read kind p) refl q
   where
-    go : (w : EntriesRead) → recording_read kind p ≡ w → counted.Frames n ≡ counted_of w → There kind p k
+    go : (w : EntriesRead) → recording_read kind p ≡ w → Ok n ≡ counted_of w → There kind p k
     go (refused_entries f) e x = apart (cc)
     go (frames fs) e x =
         let m : n ≡ length fs = cc in
@@ -97,19 +96,19 @@ laid_in kind p = go (recording_read kind p) refl
     go (frames fs) e = entries-laid kind (allowed kind.table Any) p (length kind.opening) fs (recorded-from kind p fs e)
 
 -- ---- write
-pub made-refused : (kind : Kind) (es : List ℕ) (r : Refusal) → counted.Refused r ≡ counted_of (entries_in kind Any es) → recording_made kind es ≡ outputs.refused_output r
+pub made-refused : (kind : Kind) (es : List ℕ) (r : Refusal) → Err r ≡ counted_of (entries_in kind Any es) → recording_made kind es ≡ outputs.refused_output r
 unfolding recording_made counted_of
 made-refused kind es r e = go (entries_in kind Any es) refl e
   where
-    go : (w : EntriesRead) → entries_in kind Any es ≡ w → counted.Refused r ≡ counted_of w → recording_made kind es ≡ outputs.refused_output r
+    go : (w : EntriesRead) → entries_in kind Any es ≡ w → Err r ≡ counted_of w → recording_made kind es ≡ outputs.refused_output r
     go (refused_entries f) q x = let y : f ≡ r = cc in rw (q, y)
     go (frames fs) q x = apart (cc)
 
-pub made-frames : (kind : Kind) (es : List ℕ) (n : ℕ) → counted.Frames n ≡ counted_of (entries_in kind Any es) → recording_made kind es ≡ outputs.octets (kind.opening ++ cleared kind 0 es)
+pub made-frames : (kind : Kind) (es : List ℕ) (n : ℕ) → Ok n ≡ counted_of (entries_in kind Any es) → recording_made kind es ≡ outputs.octets (kind.opening ++ cleared kind 0 es)
 unfolding recording_made counted_of
 made-frames kind es n e = go (entries_in kind Any es) refl e
   where
-    go : (w : EntriesRead) → entries_in kind Any es ≡ w → counted.Frames n ≡ counted_of w → recording_made kind es ≡ outputs.octets (kind.opening ++ cleared kind 0 es)
+    go : (w : EntriesRead) → entries_in kind Any es ≡ w → Ok n ≡ counted_of w → recording_made kind es ≡ outputs.octets (kind.opening ++ cleared kind 0 es)
     go (refused_entries f) q x = apart (cc)
     go (frames fs) q x = rw q (ap (λ (l : List ℕ). outputs.octets (kind.opening ++ l)) (entries-cleared kind (allowed kind.table Any) 0 es fs q))
 

@@ -9,8 +9,8 @@ ghost use Rattle.frame.specs.Places.{located_of, body_of, start_of, VeryPart};
 ghost use Rattle.recording.specs.Recording.{opens_with, recording_read, recording_made};
 ghost use Rattle.recording.specs.Shown.{given_in};
 
-use answers::{Refusal, Written};
-use entries::{Counted, Rule};
+use answers::Refusal;
+use entries::Rule;
 use frame::{Located, Vocoder};
 
 // The opening octets: #!EVRC and a newline.
@@ -22,42 +22,35 @@ const HEAD: usize = 7;
 fn opens(vocoder: Vocoder, recording: &[u8]) -> bool
     ensures { result ≡ opens_with (kind_of vocoder) recording.now }
 {
-    if recording.len() < HEAD {
-        return false;
-    }
-    octets::same(&OPENING, &recording[..HEAD])
+    recording.starts_with(&OPENING)
 }
 
 // The number of frames of a recording.
-pub fn read(vocoder: Vocoder, recording: &[u8]) -> Counted
+#[tactic(auto, unfolding(crate::specs::Recording::recording_read, entries::specs::Counting::counted_of))]
+pub fn read(vocoder: Vocoder, recording: &[u8]) -> Result<usize, Refusal>
     ensures { result ≡ counted_of (recording_read (kind_of vocoder) recording.now) }
 {
-    let good = opens(vocoder, recording);
-    if good {
-        entries::count(vocoder, Rule::Any, recording, HEAD)
-    } else {
-        Counted::Refused(Refusal::WrongOpening)
+    if !opens(vocoder, recording) {
+        return Err(Refusal::WrongOpening);
     }
+    entries::count(vocoder, Rule::Any, recording, HEAD)
 }
 
 // Where frame k of a recording lies; 21 where k is not below the frame count.
-pub fn locate(vocoder: Vocoder, recording: &[u8], k: usize) -> Located
+pub fn locate(vocoder: Vocoder, recording: &[u8], k: usize) -> Result<Located, Refusal>
     ensures { result ≡ located_of (given_in (kind_of vocoder) recording.now) k }
 {
-    let held = read(vocoder, recording);
-    match held {
-        Counted::Refused(r) => Located::Refused(r),
-        Counted::Frames(n) => {
-            if n <= k {
-                return Located::Refused(Refusal::NotApplicable);
-            }
-            let at = HEAD + entries::seek(vocoder, &recording[HEAD..], k);
-            let kind = recording[at] % 64;
-            let start = at + 1;
-            let size = frame::body_size(vocoder, kind);
-            Located::At { kind, start, size }
-        }
+    let count = read(vocoder, recording)?;
+    if count <= k {
+        return Err(Refusal::NotApplicable);
     }
+    let at = HEAD + entries::seek(vocoder, &recording[HEAD..], k);
+    let kind = recording[at] % 64;
+    Ok(Located {
+        kind,
+        start: at + 1,
+        size: frame::body_size(vocoder, kind),
+    })
 }
 
 // The body of frame k: the very part of the recording where it lies; empty on a refusal.
@@ -68,23 +61,14 @@ pub fn body(vocoder: Vocoder, recording: &[u8], k: usize) -> &[u8]
 }
 
 // Writes a recording of entries: the opening octets, then the entries with F and D at 0.
-pub fn write(vocoder: Vocoder, entries: &[u8], out: &mut [u8]) -> Written
+pub fn write(vocoder: Vocoder, entries: &[u8], out: &mut [u8]) -> Result<usize, Refusal>
     ensures { Writes (recording_made (kind_of vocoder) entries.now) out.old result out.new }
 {
-    let held = entries::count(vocoder, Rule::Any, entries, 0);
-    match held {
-        Counted::Refused(r) => Written::Refused(r),
-        Counted::Frames(_) => {
-            if out.len() < HEAD {
-                return Written::Refused(Refusal::NoRoom);
-            }
-            if out.len() - HEAD < entries.len() {
-                return Written::Refused(Refusal::NoRoom);
-            }
-            octets::copy(out, 0, &OPENING);
-            entries::write_cleared(vocoder, out, HEAD, entries);
-            let written = HEAD + entries.len();
-            Written::Octets(written)
-        }
+    entries::count(vocoder, Rule::Any, entries, 0)?;
+    if out.len() < HEAD || out.len() - HEAD < entries.len() {
+        return Err(Refusal::NoRoom);
     }
+    octets::copy(out, 0, &OPENING);
+    entries::write_cleared(vocoder, out, HEAD, entries);
+    Ok(HEAD + entries.len())
 }

@@ -1,4 +1,5 @@
 -- How an offer ends: the one walk over its checks, from which all that holds of every offer is read off. Assumes nothing.
+use Rattle.std.proofs.Common.{Option, Some, None, Result, Ok, Err}
 use Prim.Native.Nat.{ℕ, ◌/◌, ◌≤◌}
 use mathlib.Core.Bool.{Bool, true, false, cond, ◌&&◌}
 use mathlib.Core.Path.{◌≡◌, refl, sym, ap, subst, ◌∙◌}
@@ -15,34 +16,32 @@ use Rattle.answers.specs.declared.Refusal.TheVariants.{AnotherSource, PacketDiff
 use Rattle.payload.specs.Payload.{Reading, packet, refused_payload, read_as}
 use Rattle.payload.proofs.Faulting.{never-later}
 use Rattle.numbers.specs.Place.{pause, minute, with_held, after_poured, decided}
+use Rattle.numbers.specs.declared.GroupNumbers.{GroupNumbers}
 use Rattle.numbers.specs.declared.Before.TheVariants as before
 use Rattle.numbers.specs.declared.Verdict.{Verdict}
 use Rattle.numbers.proofs.PlaceLaws.{HeldEnds, held-ends, PouredEnds, poured-ends}
 use Rattle.numbers.proofs.PlaceLaws as numbers
 use Rattle.form.specs.declared.Form.{Form}
-use Rattle.holding.specs.Group.{numbers_of, is_nothing, held_at, bundle_at, with_packet, holds}
+use Rattle.holding.specs.Group.{is_nothing, held_at, bundle_at, with_packet, holds}
 use Rattle.holding.proofs.GroupLaws.{nothing_is, sound-has, holds-sound}
 use Rattle.bundle.specs.Bundles.{same_bundles}
-use Rattle.session.specs.Session.{vacant, fresh, form_right, last_right, group_right, is_open, refuse, accept, with_group, last_numbers, group_before, begins}
+use Rattle.session.specs.Session.{Arrival, Offered, vacant, fresh, form_right, last_right, group_right, is_open, refuse, accept, with_group, poured_before, lost_after, group_before, begins}
 use Rattle.session.specs.Session.{belongs, placed_by, placed, arrival, judged, received, offered, ended}
 use Rattle.session.specs.declared.Session.{Session}
-use Rattle.session.specs.declared.Arrival.{Arrival}
-use Rattle.session.specs.declared.Offered.{Offered}
-use Rattle.session.specs.declared.Taken.TheVariants.{Accepted, Refused}
 
 -- ---- a session that is open
 pub record Open (v : Voice) (s : Session) : Type 0 where
   pub opened : s.«open» ≡ true
   pub form : form_right s.form ≡ true
-  pub last : last_right v.shape s ≡ true
+  pub last : last_right v.shape s.last ≡ true
   pub group : group_right v s ≡ true
 
 pub open-has : (v : Voice) (s : Session) → is_open v s ≡ true → Open v s
 unfolding is_open
 open-has v s e =
-    let p = both_true s.«open» (form_right s.form && (last_right v.shape s && group_right v s)) e in
-    let q = both_true (form_right s.form) (last_right v.shape s && group_right v s) p.1 in
-    let r = both_true (last_right v.shape s) (group_right v s) q.1 in
+    let p = both_true s.«open» (form_right s.form && (last_right v.shape s.last && group_right v s)) e in
+    let q = both_true (form_right s.form) (last_right v.shape s.last && group_right v s) p.1 in
+    let r = both_true (last_right v.shape s.last) (group_right v s) q.1 in
     record { opened = p.0; form = q.0; last = r.0; group = r.1 }
 
 -- its group is held, and names its source
@@ -52,7 +51,7 @@ unfolding group_right
 group-has v s e f = let p = both_true (holds v s.group) (eqb s.group.source s.source) (rw f at e) in (p.0, eqb-true _ _ p.1)
 
 -- and it holds none if its group has no frame to a packet
-pub open-vacant : (v : Voice) (s : Session) → is_open v s ≡ true → s.group.b ≡ 0 → is_nothing v.shape s.group ≡ true
+pub open-vacant : (v : Voice) (s : Session) → is_open v s ≡ true → s.group.numbers.b ≡ 0 → is_nothing v.shape s.group ≡ true
 open-vacant v s e z = go (is_nothing v.shape s.group) refl
   where
     go : (x : Bool) → is_nothing v.shape s.group ≡ x → x ≡ true
@@ -78,15 +77,15 @@ ended-open v s o h =
 pub data Placed (u : Shape) (s : Session) (a : Arrival) (o : Offered) : Type 0 where
   no : (r : Refusal) → (is_nothing u s.group ≡ true → eqb (number_of r) 12 ≡ false) → o ≡ refuse s r → Placed u s a o
   again : is_nothing u s.group ≡ false → o ≡ accept s 0 → Placed u s a o
-  put : is_nothing u s.group ≡ false → held_at s.group a.n ≡ false → a.numbers.l ≡ s.group.l → a.numbers.b ≡ s.group.b
+  put : is_nothing u s.group ≡ false → held_at s.group a.n ≡ false → a.numbers.l ≡ s.group.numbers.l → a.numbers.b ≡ s.group.numbers.b
       → o ≡ accept (with_group s (with_packet u s.group a.n a.packet)) 0 → Placed u s a o
-  first : is_nothing u s.group ≡ true → s.poured ≡ false → o ≡ begins u s a 0 → Placed u s a o
-  next : is_nothing u s.group ≡ true → s.poured ≡ true → (lost : ℕ) → lost ≡ pause (last_numbers s) a.numbers / 160
+  first : is_nothing u s.group ≡ true → s.last ≡ None → o ≡ begins u s a 0 → Placed u s a o
+  next : is_nothing u s.group ≡ true → (g : GroupNumbers) → s.last ≡ Some g → (lost : ℕ) → lost ≡ pause g a.numbers / 160
       → lost ≤ minute → o ≡ begins u s a lost → Placed u s a o
 
 module _ (u : Shape) (s : Session) (a : Arrival) where
   -- it belongs to the held group
-  belongs-ends : is_nothing u s.group ≡ false → a.numbers.l ≡ s.group.l → a.numbers.b ≡ s.group.b → Placed u s a (belongs u s a)
+  belongs-ends : is_nothing u s.group ≡ false → a.numbers.l ≡ s.group.numbers.l → a.numbers.b ≡ s.group.numbers.b → Placed u s a (belongs u s a)
   unfolding belongs
   belongs-ends q l b = go (held_at s.group a.n) refl (same_bundles (bundle_at u s.group a.n) a.packet)
     where
@@ -97,27 +96,26 @@ module _ (u : Shape) (s : Session) (a : Arrival) where
       go false k y = put q k l b refl
 
   -- with a group held, and with one poured before
-  by-held : is_nothing u s.group ≡ false → (w : Verdict) → HeldEnds (numbers_of s.group) a.numbers w → Placed u s a (placed_by u s a w)
-  unfolding placed_by numbers_of
+  by-held : is_nothing u s.group ≡ false → (w : Result Verdict Refusal) → HeldEnds s.group.numbers a.numbers w → Placed u s a (placed_by u s a w)
+  unfolding placed_by
   by-held q w (numbers.refused r e) = rw e (no r (λ h. let z : false ≡ true = sym q ∙ h in apart (cc)) refl)
   by-held q w (numbers.member l b e) = rw e (belongs-ends q l b)
 
-  by-poured : is_nothing u s.group ≡ true → s.poured ≡ true → (w : Verdict) → PouredEnds (last_numbers s) a.numbers w
+  by-poured : is_nothing u s.group ≡ true → (g : GroupNumbers) → s.last ≡ Some g → (w : Result Verdict Refusal) → PouredEnds g a.numbers w
       → Placed u s a (placed_by u s a w)
-  unfolding placed_by last_numbers
-  by-poured q p w (numbers.refused r n e) = rw e (no r (λ h. n) refl)
-  by-poured q p w (numbers.follows lost f h e) = rw e (next q p lost f h refl)
+  unfolding placed_by
+  by-poured q g p w (numbers.refused r n e) = rw e (no r (λ h. n) refl)
+  by-poured q g p w (numbers.follows lost f h e) = rw e (next q g p lost f h refl)
 
   placed-ends : Placed u s a (placed u s a)
-  unfolding placed group_before decided placed_by
-  placed-ends = go (is_nothing u s.group) refl s.poured refl
+  unfolding placed group_before poured_before decided placed_by
+  placed-ends = go (is_nothing u s.group) refl s.last refl
     where
-      go : (x : Bool) → is_nothing u s.group ≡ x → (y : Bool) → s.poured ≡ y
-          → Placed u s a (placed_by u s a
-          (decided (cond x (cond y (before.Poured (last_numbers s)) before.Nothing) (before.Held (numbers_of s.group))) a.numbers))
-      go false q y p = by-held q (with_held (numbers_of s.group) a.numbers) (held-ends (numbers_of s.group) a.numbers)
-      go true q true p = by-poured q p (after_poured (last_numbers s) a.numbers) (poured-ends (last_numbers s) a.numbers)
-      go true q false p = first q p refl
+      go : (x : Bool) → is_nothing u s.group ≡ x → (y : Option GroupNumbers) → s.last ≡ y
+          → Placed u s a (placed_by u s a (decided (cond x (poured_before y) (before.Held s.group.numbers)) a.numbers))
+      go false q y p = by-held q (with_held s.group.numbers a.numbers) (held-ends s.group.numbers a.numbers)
+      go true q (Some g) p = by-poured q g p (after_poured g a.numbers) (poured-ends g a.numbers)
+      go true q None p = first q p refl
 
 -- what is seen of it: refused, and the session is as it was; or accepted, with the lost frames that the formula tells
 pub data Seen (s : Session) (lost : ℕ) (o : Offered) : Type 0 where
@@ -125,16 +123,17 @@ pub data Seen (s : Session) (lost : ℕ) (o : Offered) : Type 0 where
   took : (t : Session) → o ≡ accept t lost → Seen s lost o
 
 pub seen : (u : Shape) (s : Session) (a : Arrival) (o : Offered) → Placed u s a o
-    → Seen s (cond (is_nothing u s.group && s.poured) (pause (last_numbers s) a.numbers / 160) 0) o
+    → Seen s (cond (is_nothing u s.group) (lost_after s.last a.numbers) 0) o
 unfolding begins
 seen u s a o (no r n e) = kept r e
 seen u s a o (again q e) = rw q (took s e)
 seen u s a o (put q k f g e) = rw q (took _ e)
-seen u s a o (first q p e) = rw (q, p) (took _ e)
-seen u s a o (next q p lost f h e) =
-    let m = pause (last_numbers s) a.numbers / 160 in
-    let z : cond (is_nothing u s.group && s.poured) m 0 ≡ m = simp (q, p) in
-    subst (λ (m : ℕ). Seen s m o) (f ∙ sym z) (took _ e)
+seen u s a o (first q p e) =
+    let z : cond (is_nothing u s.group) (lost_after s.last a.numbers) 0 ≡ 0 = simp q (ap (λ (l : Option GroupNumbers). lost_after l a.numbers) p) in
+    subst (λ (m : ℕ). Seen s m o) (sym z) (took _ e)
+seen u s a o (next q g p lost f h e) =
+    let z : cond (is_nothing u s.group) (lost_after s.last a.numbers) 0 ≡ lost = simp q (ap (λ (l : Option GroupNumbers). lost_after l a.numbers) p) ∙ sym f in
+    subst (λ (m : ℕ). Seen s m o) (sym z) (took _ e)
 
 -- ---- an offer: refused before its place is looked at, or a packet of the session's source that was read, at its place
 pub data Ends (v : Voice) (s : Session) (source sequence timestamp : ℕ) (p : List ℕ) (o : Offered) : Type 0 where
@@ -158,15 +157,15 @@ offer-ends v s source sequence timestamp p = by-open (is_open v s) refl (eqb sou
 
 -- ---- a refused offer leaves the session as it was
 pub refused-keeps : (v : Voice) (s : Session) (source sequence timestamp : ℕ) (p : List ℕ) (r : Refusal)
-    → (offered v s source sequence timestamp p).answer ≡ Refused r → (offered v s source sequence timestamp p).session ≡ s
+    → (offered v s source sequence timestamp p).answer ≡ Err r → (offered v s source sequence timestamp p).session ≡ s
 unfolding refuse accept
 refused-keeps v s source sequence timestamp p r = go (offered v s source sequence timestamp p) (offer-ends v s source sequence timestamp p)
   where
-    same : (m : ℕ) (o : Offered) → Seen s m o → o.answer ≡ Refused r → o.session ≡ s
+    same : (m : ℕ) (o : Offered) → Seen s m o → o.answer ≡ Err r → o.session ≡ s
     same m o (kept x e) h = rw e
-    same m o (took t e) h = let z : Accepted m ≡ Refused r = sym (ap (λ (y : Offered). y.answer) e) ∙ h in apart (cc)
+    same m o (took t e) h = let z : Ok m ≡ Err r = sym (ap (λ (y : Offered). y.answer) e) ∙ h in apart (cc)
 
-    go : (o : Offered) → Ends v s source sequence timestamp p o → o.answer ≡ Refused r → o.session ≡ s
+    go : (o : Offered) → Ends v s source sequence timestamp p o → o.answer ≡ Err r → o.session ≡ s
     go o (refuses x k e) h = rw e
     go o (places i j l n d fs q x) h = same _ o (seen v.shape s (arrival v.shape sequence timestamp l n fs) o x) h
 
@@ -177,7 +176,7 @@ placed-group u s a o (no r n e) = rw e
 placed-group u s a o (again q e) = rw e
 placed-group u s a o (put q k l b e) = rw e
 placed-group u s a o (first q p e) = rw e
-placed-group u s a o (next q p lost f h e) = rw e
+placed-group u s a o (next q g p lost f h e) = rw e
 
 pub only-group : (v : Voice) (s : Session) (source sequence timestamp : ℕ) (p : List ℕ)
     → (offered v s source sequence timestamp p).session ≡ with_group s (offered v s source sequence timestamp p).session.group

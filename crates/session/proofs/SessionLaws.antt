@@ -1,26 +1,23 @@
 -- Sessions, check by check. Assumes nothing.
-use Prim.Native.Nat.{ℕ, ◌≤◌, ◌<◌}
+use Rattle.std.proofs.Common.{Result, Ok, Err}
+use Prim.Native.Nat.{ℕ, ◌<◌}
 use mathlib.Core.Bool.{true, false}
 use mathlib.Core.Path.{◌≡◌, refl, sym, ap, ◌∙◌}
 use mathlib.Core.List.{List}
 use native.Mathlib.Omega.{arith}
 use lib.ListN.{length}
-use lib.Dec.{T, eqb, leb}
-use borrow.Author.Tests.{eq-eqb, ne_eqb, le-leb, lt-leb}
+use lib.Dec.{T}
+use borrow.Author.Tests.{eq-eqb, ne_eqb}
 use Rattle.octets.proofs.Logic.{apart}
 use Rattle.frame.specs.FrameTable.{FrameTable, single}
 use Rattle.frame.specs.Shape.{Shape, Voice}
-use Rattle.form.specs.Agreed.{opened}
-use Rattle.form.specs.declared.Limits.{Limits}
 use Rattle.form.specs.declared.Form.{Form}
-use Rattle.form.specs.declared.Form.TheVariants.{HeaderFree, Interleaved}
-use Rattle.form.specs.declared.Opened.TheVariants as opened
 use Rattle.answers.specs.declared.Refusal.{Refusal}
 use Rattle.answers.specs.declared.Refusal.TheVariants.{AnotherSource, PacketDiffers, NotApplicable}
-use Rattle.form.proofs.AgreedLaws.{opened-agreed, opened-refused}
 use Rattle.payload.specs.Payload.{Reading, packet, refused_payload, read_as}
-use Rattle.payload.specs.Shown.{contents_of, frames_read}
-use Rattle.payload.specs.declared.Contents.TheVariants as contents
+use Rattle.answers.proofs.Exits.{same_ok}
+use Rattle.payload.specs.Shown.{contents_of, frames_read, holds_packet}
+use Rattle.payload.specs.declared.Contents.{Contents}
 use Rattle.payload.proofs.Readings.{read_is}
 use Rattle.numbers.specs.Bases.{base_sequence, base_timestamp}
 use Rattle.numbers.specs.Place.{decided}
@@ -29,114 +26,32 @@ use Rattle.numbers.specs.declared.Before.{Before}
 use Rattle.numbers.specs.declared.Before.TheVariants as before
 use Rattle.numbers.specs.declared.Verdict.{Verdict}
 use Rattle.numbers.specs.declared.Verdict.TheVariants as verdict
-use Rattle.holding.specs.Group.{is_nothing, numbers_of, held_at, bundle_at, with_packet, holds}
+use Rattle.holding.specs.Group.{is_nothing, held_at, bundle_at, with_packet, holds}
 use Rattle.bundle.specs.Bundles.{same_bundles}
 use Rattle.bundle.specs.LaidOut.{laid}
 use Rattle.bundle.specs.declared.Bundle.{Bundle}
-use Rattle.answers.specs.declared.Answer.TheVariants as answer
 use Rattle.answers.specs.Outputs as outputs
 use Rattle.answers.specs.Outputs.{Made, Writes}
-use Rattle.answers.specs.declared.Written.{Written}
 use Rattle.entries.specs.Entries.{entries_of}
 use Rattle.pouring.specs.Pouring.{in_time}
 use Rattle.pouring.proofs.PouringLaws.{pour-none, pour-all}
 use Rattle.holding.proofs.GroupLaws.{some-frames, no-frame}
-use Rattle.session.specs.Session.{form_right, opened_for, vacant, fresh, last_right, group_right, is_open, refuse, accept, with_group}
-use Rattle.session.specs.Session.{last_numbers, group_before, begins, belongs, placed_by, placed, arrival, judged, received, offered}
-use Rattle.session.specs.Session.{pour_made, ended, no_copy, copied, not_dropped, dropped}
+use Rattle.session.specs.Session.{Arrival, is_open, refuse, accept, with_group}
+use Rattle.session.specs.Session.{poured_before, group_before, begins, belongs, placed_by, placed, arrival, judged, received, offered}
+use Rattle.session.specs.Session.{pour_made}
 use Rattle.session.specs.declared.Session.{Session}
-use Rattle.session.specs.declared.Arrival.{Arrival}
-use Rattle.session.specs.declared.Started.{Started}
-use Rattle.session.specs.declared.Copied.{Copied}
-use Rattle.session.specs.declared.Dropped.{Dropped}
 use Rattle.session.proofs.Ends.{open-has, group-has}
-
--- ---- the agreed form
-pub form-agreed : (m a : Limits) → opened.Agreed a ≡ opened m.max_l m.max_b → true ≡ form_right (Interleaved m)
-unfolding form_right
-form-agreed m a e = sym (opened-agreed m a (sym e)).0
-
-pub form-refused : (m : Limits) (r : Refusal) → opened.Refused r ≡ opened m.max_l m.max_b → false ≡ form_right (Interleaved m)
-unfolding form_right
-form-refused m r e = sym (opened-refused m r (sym e)).0
-
-pub form-free : true ≡ form_right HeaderFree
-unfolding form_right
-form-free = refl
-
-module _ (u : Shape) (s : Session) (source : ℕ) (form : Form) where
-  pub opens : (t : Session) → form_right form ≡ true → t ≡ vacant u true source form
-      → ◌≡◌ {A = Started} (record { answer = answer.Done; session = t }) (opened_for u s source form)
-  unfolding opened_for fresh
-  opens t e f = simp e (ap (λ (x : Session). record { answer = answer.Done; session = x }) f)
-
-  pub not_opened : form_right form ≡ false → ◌≡◌ {A = Started} (record { answer = answer.Refused NotApplicable; session = s }) (opened_for u s source form)
-  unfolding opened_for
-  not_opened e = simp e
-
--- ---- whether a session is open
-module _ (u : Shape) (s : Session) where
-  pub last-long : s.poured ≡ true → u.greatest < s.last_l → false ≡ last_right u s
-  unfolding last_right
-  last-long p a = simp (p, lt-leb _ _ a)
-
-  pub last_none : s.poured ≡ true → s.last_l ≤ u.greatest → s.last_b < 1 → false ≡ last_right u s
-  unfolding last_right
-  last_none p a b = simp (p, le-leb _ _ a, lt-leb _ _ b)
-
-  pub last-bundle : s.poured ≡ true → s.last_l ≤ u.greatest → 1 ≤ s.last_b → leb s.last_b 10 ≡ last_right u s
-  unfolding last_right
-  last-bundle p a b = simp (p, le-leb _ _ a, le-leb _ _ b)
-
-  pub none-poured : s.poured ≡ false → true ≡ last_right u s
-  unfolding last_right
-  none-poured p = simp p
-
-module _ (v : Voice) (s : Session) where
-  pub group-vacant : is_nothing v.shape s.group ≡ true → true ≡ group_right v s
-  unfolding group_right
-  group-vacant e = simp e
-
-  pub group-broken : is_nothing v.shape s.group ≡ false → holds v s.group ≡ false → false ≡ group_right v s
-  unfolding group_right
-  group-broken e f = simp (e, f)
-
-  pub group-source : is_nothing v.shape s.group ≡ false → holds v s.group ≡ true → eqb s.group.source s.source ≡ group_right v s
-  unfolding group_right
-  group-source e f = simp (e, f)
-
-  pub not-open : s.«open» ≡ false → false ≡ is_open v s
-  unfolding is_open
-  not-open e = simp e
-
-  module _ (o : s.«open» ≡ true) where
-    pub form-wrong : form_right s.form ≡ false → false ≡ is_open v s
-    unfolding is_open
-    form-wrong e = simp (o, e)
-
-    pub last-wrong : form_right s.form ≡ true → last_right v.shape s ≡ false → false ≡ is_open v s
-    unfolding is_open
-    last-wrong e f = simp (o, e, f)
-
-    pub by-group : form_right s.form ≡ true → last_right v.shape s ≡ true → group_right v s ≡ is_open v s
-    unfolding is_open
-    by-group e f = simp (o, e, f)
 
 -- ---- the group before
 module _ (u : Shape) (s : Session) where
-  pub one-held : (g : GroupNumbers) → is_nothing u s.group ≡ false → g ≡ numbers_of s.group
+  pub one-held : (g : GroupNumbers) → is_nothing u s.group ≡ false → g ≡ s.group.numbers
       → before.Held g ≡ group_before u s
   unfolding group_before
   one-held g e q = simp e (ap before.Held q)
 
-  pub one-poured : (g : GroupNumbers) → is_nothing u s.group ≡ true → s.poured ≡ true → g ≡ last_numbers s
-      → before.Poured g ≡ group_before u s
+  pub none-held : is_nothing u s.group ≡ true → poured_before s.last ≡ group_before u s
   unfolding group_before
-  one-poured g e p q = simp (e, p) (ap before.Poured q)
-
-  pub none_before : is_nothing u s.group ≡ true → s.poured ≡ false → before.Nothing ≡ group_before u s
-  unfolding group_before
-  none_before e p = simp (e, p)
+  none-held e = simp e
 
 -- ---- a packet of the held group
 module _ (u : Shape) (s : Session) (a : Arrival) where
@@ -155,51 +70,22 @@ module _ (u : Shape) (s : Session) (a : Arrival) where
     differs f = simp (e, f)
 
 -- ---- the verdict on its numbers
-module _ (u : Shape) (s : Session) (a : Arrival) (g : Before) (w : Verdict) (e : g ≡ group_before u s) (f : w ≡ decided g a.numbers) where
-  by-verdict : (x : Verdict) → w ≡ x → placed_by u s a x ≡ placed u s a
+module _ (u : Shape) (s : Session) (a : Arrival) (g : Before) (w : Result Verdict Refusal) (e : g ≡ group_before u s) (f : w ≡ decided g a.numbers) where
+  by-verdict : (x : Result Verdict Refusal) → w ≡ x → placed_by u s a x ≡ placed u s a
   unfolding placed
   by-verdict x q = ap (placed_by u s a) (sym q ∙ f ∙ ap (λ (h : Before). decided h a.numbers) e)
 
-  pub it-begins : (lost : ℕ) → w ≡ verdict.Begins lost → begins u s a lost ≡ placed u s a
+  pub it-begins : (lost : ℕ) → w ≡ Ok (verdict.Begins lost) → begins u s a lost ≡ placed u s a
   unfolding placed_by
-  it-begins lost q = by-verdict (verdict.Begins lost) q
+  it-begins lost q = by-verdict (Ok (verdict.Begins lost)) q
 
-  pub it-belongs : w ≡ verdict.Belongs → belongs u s a ≡ placed u s a
+  pub it-belongs : w ≡ (Ok verdict.Belongs) → belongs u s a ≡ placed u s a
   unfolding placed_by
-  it-belongs q = by-verdict verdict.Belongs q
+  it-belongs q = by-verdict (Ok verdict.Belongs) q
 
-  pub is-refused : (r : Refusal) → w ≡ verdict.Refused r → refuse s r ≡ placed u s a
+  pub is-refused : (r : Refusal) → w ≡ Err r → refuse s r ≡ placed u s a
   unfolding placed_by
-  is-refused r q = by-verdict (verdict.Refused r) q
-
--- ---- copying out
-module _ (v : Voice) (s : Session) where
-  pub copy-closed : is_open v s ≡ false → no_copy v.shape ≡ copied v s
-  unfolding copied
-  copy-closed e = simp e
-
-  pub copy-vacant : is_open v s ≡ true → is_nothing v.shape s.group ≡ true → no_copy v.shape ≡ copied v s
-  unfolding copied
-  copy-vacant e f = simp (e, f)
-
-  pub copy-group : is_open v s ≡ true → is_nothing v.shape s.group ≡ false → ◌≡◌ {A = Copied} (record { answer = answer.Done; holding = s.group }) (copied v s)
-  unfolding copied
-  copy-group e f = simp (e, f)
-
--- ---- dropping
-module _ (v : Voice) (s : Session) where
-  pub drop-closed : is_open v s ≡ false → not_dropped s ≡ dropped v s
-  unfolding dropped
-  drop-closed e = simp e
-
-  pub drop-vacant : is_open v s ≡ true → is_nothing v.shape s.group ≡ true → not_dropped s ≡ dropped v s
-  unfolding dropped
-  drop-vacant e f = simp (e, f)
-
-  pub drop-group : (t : Session) → is_open v s ≡ true → is_nothing v.shape s.group ≡ false → t ≡ ended v.shape s
-      → ◌≡◌ {A = Dropped} (record { answer = answer.Done; session = t }) (dropped v s)
-  unfolding dropped
-  drop-group t e f q = simp (e, f) (ap (λ (x : Session). record { answer = answer.Done; session = x }) q)
+  is-refused r q = by-verdict (Err r) q
 
 -- ---- pouring
 module _ (v : Voice) (s : Session) where
@@ -209,19 +95,19 @@ module _ (v : Voice) (s : Session) where
 
   module _ (e : is_open v s ≡ true) where
     -- a group is held if B is not 0
-    pub group-holds : (s.group.b ≡ 0 → ⊥) → holds v s.group ≡ true
+    pub group-holds : (s.group.numbers.b ≡ 0 → ⊥) → holds v s.group ≡ true
     group-holds n = (group-has v s (open-has v s e).group (some-frames v.shape s.group n)).0
 
-    pub pour-vacant : s.group.b ≡ 0 → pour_made v s ≡ outputs.refused_output NotApplicable
+    pub pour-vacant : s.group.numbers.b ≡ 0 → pour_made v s ≡ outputs.refused_output NotApplicable
     unfolding pour_made
     pour-vacant z = simp e (pour-none v s.group (no-frame v s.group z))
 
-    pub pour-group : (s.group.b ≡ 0 → ⊥) → pour_made v s ≡ outputs.octets (entries_of (in_time v s.group))
+    pub pour-group : (s.group.numbers.b ≡ 0 → ⊥) → pour_made v s ≡ outputs.octets (entries_of (in_time v s.group))
     unfolding pour_made
     pour-group n = simp e (pour-all v s.group (group-holds n))
 
 -- ---- offering
-judge-refused : (u : Shape) (s : Session) (sequence timestamp : ℕ) (w : Reading) (r : Refusal) → contents.Refused r ≡ contents_of w → refuse s r ≡ judged u s sequence timestamp w
+judge-refused : (u : Shape) (s : Session) (sequence timestamp : ℕ) (w : Reading) (r : Refusal) → Err r ≡ contents_of w → refuse s r ≡ judged u s sequence timestamp w
 unfolding judged contents_of
 judge-refused u s q t (refused_payload x) r e = let z : r ≡ x = cc in ap (refuse s) z
 judge-refused u s q t (packet l n d fs) r e = apart (cc)
@@ -229,7 +115,7 @@ judge-refused u s q t (packet l n d fs) r e = apart (cc)
 -- what was read of a packet, as it arrived
 pub record Came (u : Shape) (sequence timestamp : ℕ) (w : Reading) (a : Arrival) : Type 0 where
   pub d : ℕ
-  pub told : contents.Packet a.numbers.l a.n a.numbers.b d ≡ contents_of w
+  pub told : holds_packet a.numbers.l a.n a.numbers.b d ≡ contents_of w
   pub base : a.numbers.sequence ≡ base_sequence sequence a.n
   pub time : a.numbers.timestamp ≡ base_timestamp timestamp a.n
   pub frames : a.packet ≡ laid u (frames_read w)
@@ -239,10 +125,10 @@ judge-placed : (u : Shape) (s : Session) (sequence timestamp : ℕ) (w : Reading
 unfolding judged contents_of frames_read arrival
 judge-placed u s q t (refused_payload x) a c = let e = c.told in apart (cc)
 judge-placed u s q t (packet l n d fs) a c =
-    let e = c.told in
-    let zl : a.numbers.l ≡ l = cc in
-    let zn : a.n ≡ n = cc in
-    let zb : a.numbers.b ≡ length fs = cc in
+    let e = same_ok _ _ c.told in
+    let zl : a.numbers.l ≡ l = ap (λ (x : Contents). x.l) e in
+    let zn : a.n ≡ n = ap (λ (x : Contents). x.n) e in
+    let zb : a.numbers.b ≡ length fs = ap (λ (x : Contents). x.b) e in
     ap (placed u s)
     (same-arrival (c.base ∙ ap (base_sequence q) zn) (c.time ∙ ap (base_timestamp t) zn) zl zb zn c.frames)
   where
@@ -252,15 +138,15 @@ judge-placed u s q t (packet l n d fs) a c =
     same-arrival i j k l m n = cc
 
 -- N of a packet that was read
-pub index-small : (v : FrameTable) → T (single v v) → (f : Form) (p : List ℕ) (l n b d : ℕ) → contents.Packet l n b d ≡ contents_of (read_as v f p) → n < 8
+pub index-small : (v : FrameTable) → T (single v v) → (f : Form) (p : List ℕ) (l n b d : ℕ) → holds_packet l n b d ≡ contents_of (read_as v f p) → n < 8
 unfolding contents_of
 index-small v z f p l n b d e = go (read_as v f p) refl e
   where
-    go : (w : Reading) → read_as v f p ≡ w → contents.Packet l n b d ≡ contents_of w → n < 8
+    go : (w : Reading) → read_as v f p ≡ w → holds_packet l n b d ≡ contents_of w → n < 8
     go (refused_payload r) q x = apart (cc)
     go (packet l' n' d' fs) q x =
         let i = read_is v z f p l' n' d' fs q in
-        let zn : n ≡ n' = cc in
+        let zn : n ≡ n' = ap (λ (c : Contents). c.n) (same_ok _ _ x) in
         omega (arith, i.index_in, i.length_small)
 
 module _ (v : Voice) (s : Session) (source sequence timestamp : ℕ) (p : List ℕ) where
@@ -281,7 +167,7 @@ module _ (v : Voice) (s : Session) (source sequence timestamp : ℕ) (p : List �
     unfolding received
     by-reading = simp (eq-eqb _ _ q)
 
-    pub not-read : (r : Refusal) → contents.Refused r ≡ contents_of (read_as v.table s.form p)
+    pub not-read : (r : Refusal) → Err r ≡ contents_of (read_as v.table s.form p)
         → refuse s r ≡ received v s source sequence timestamp p
     not-read r e = judge-refused v.shape s sequence timestamp (read_as v.table s.form p) r e ∙ by-reading
 
@@ -290,5 +176,5 @@ module _ (v : Voice) (s : Session) (source sequence timestamp : ℕ) (p : List �
     was_read a c = judge-placed v.shape s sequence timestamp (read_as v.table s.form p) a c ∙ by-reading
 
 -- what another call made and answered is handed on
-pub handed-on : (m m' : Made) (before : List ℕ) (r r' : Written) (after : List ℕ) → m ≡ m' → r ≡ r' → Writes m' before r after → Writes m before r' after
+pub handed-on : (m m' : Made) (before : List ℕ) (r r' : Result ℕ Refusal) (after : List ℕ) → m ≡ m' → r ≡ r' → Writes m' before r after → Writes m before r' after
 handed-on m m' before r r' after e f x = rw (e, ← f) x

@@ -1,5 +1,5 @@
 -- Document 01, "Session", over any shape and frame table.
-use Rattle.std.specs.Prelude.{ℕ, Bool, true, false, cond, ◌&&◌, List, length, eqb, leb}
+use Rattle.std.specs.Prelude.{ℕ, ◌/◌, Bool, true, false, cond, ◌&&◌, List, length, eqb, leb, Option, Some, None, Result, Ok, Err}
 use Rattle.frame.specs.FrameTable.{Frame}
 use Rattle.frame.specs.Shape.{Shape, Voice}
 use Rattle.form.specs.Agreed.{in_range}
@@ -8,30 +8,51 @@ use Rattle.answers.specs.Outputs as outputs
 use Rattle.form.specs.declared.Form.{Form}
 use Rattle.form.specs.declared.Form.TheVariants.{HeaderFree, Interleaved}
 use Rattle.answers.specs.declared.Refusal.{Refusal}
-use Rattle.answers.specs.declared.Written.{Written}
-use Rattle.answers.specs.declared.Written.TheVariants as written
 use Rattle.payload.specs.Payload.{Reading, packet, refused_payload, read_as}
 use Rattle.numbers.specs.Bases.{base_sequence, base_timestamp}
-use Rattle.numbers.specs.Place.{decided}
+use Rattle.numbers.specs.Place.{pause, decided}
 use Rattle.numbers.specs.declared.GroupNumbers.{GroupNumbers}
 use Rattle.numbers.specs.declared.Before.{Before}
 use Rattle.numbers.specs.declared.Before.TheVariants as before
 use Rattle.numbers.specs.declared.Verdict.{Verdict}
 use Rattle.numbers.specs.declared.Verdict.TheVariants as verdict
-use Rattle.holding.specs.Group.{nothing, is_nothing, begun, numbers_of, held_at, bundle_at, with_packet, holds}
+use Rattle.holding.specs.Group.{nothing, is_nothing, begun, held_at, bundle_at, with_packet, holds}
 use Rattle.bundle.specs.Bundles.{same_bundles}
+use Rattle.bundle.specs.declared.Bundle.{Bundle}
+use Rattle.answers.specs.Outputs.{giving}
 use Rattle.bundle.specs.LaidOut.{laid}
 use Rattle.holding.specs.declared.Holding.{Holding}
-use Rattle.answers.specs.declared.Answer.TheVariants as answer
 use Rattle.pouring.specs.Pouring.{poured}
 use Rattle.answers.specs.declared.Refusal.TheVariants.{AnotherSource, PacketDiffers, NotApplicable}
 use Rattle.session.specs.declared.Session.{Session}
-use Rattle.session.specs.declared.Arrival.{Arrival}
-use Rattle.session.specs.declared.Taken.TheVariants.{Accepted, Refused}
-use Rattle.session.specs.declared.Offered.{Offered}
-use Rattle.session.specs.declared.Started.{Started}
-use Rattle.session.specs.declared.Copied.{Copied}
-use Rattle.session.specs.declared.Dropped.{Dropped}
+
+-- ---- a call's answer, and what it leaves
+
+-- an offer
+pub record Offered : Type 0 where
+  pub answer : Result ℕ Refusal
+  pub session : Session
+
+-- an opening
+pub record Started : Type 0 where
+  pub answer : Result Unit Refusal
+  pub session : Session
+
+-- a copy; it is of nothing where it was refused
+pub record Copied : Type 0 where
+  pub answer : Result Unit Refusal
+  pub holding : Holding
+
+-- a drop
+pub record Dropped : Type 0 where
+  pub answer : Result Unit Refusal
+  pub session : Session
+
+-- a packet that was read, with the numbers of its group and its frames laid out
+pub record Arrival : Type 0 where
+  pub numbers : GroupNumbers
+  pub n : ℕ
+  pub packet : Bundle
 
 -- ---- open, and not open
 
@@ -43,11 +64,7 @@ vacant shape is_open source form =
       source = source;
       form = form;
       group = nothing shape;
-      poured = false;
-      last_sequence = 0;
-      last_timestamp = 0;
-      last_l = 0;
-      last_b = 0;
+      last = None;
     }
 
 -- a session never opened; "Ending a session clears all of it, a held group and the memory of the last one"
@@ -66,12 +83,13 @@ form_right (Interleaved m) = in_range m
 -- "21 if a maximum is out of range"
 unfoldable pub opened_for : Shape → Session → ℕ → Form → Started
 opened_for shape s source form =
-    cond (form_right form) (record { answer = answer.Done; session = fresh shape source form })
-    (record { answer = answer.Refused NotApplicable; session = s })
+    cond (form_right form) (record { answer = (Ok tt); session = fresh shape source form })
+    (record { answer = Err NotApplicable; session = s })
 
 -- "the L or B of its last poured group is out of these ranges", if there is one; any base timestamp is in range
-unfoldable pub last_right : Shape → Session → Bool
-last_right shape s = cond s.poured (leb s.last_l shape.greatest && (leb 1 s.last_b && leb s.last_b 10)) true
+unfoldable pub last_right : Shape → Option GroupNumbers → Bool
+last_right shape None = true
+last_right shape (Some g) = leb g.l shape.greatest && (leb 1 g.b && leb g.b 10)
 
 -- "its held group breaks this or names another source"; it holds none if its group is that of nothing
 unfoldable pub group_right : Voice → Session → Bool
@@ -79,17 +97,17 @@ group_right v s = cond (is_nothing v.shape s.group) true (holds v s.group && eqb
 
 -- "A session counts as not open if .."
 unfoldable pub is_open : Voice → Session → Bool
-is_open v s = s.«open» && (form_right s.form && (last_right v.shape s && group_right v s))
+is_open v s = s.«open» && (form_right s.form && (last_right v.shape s.last && group_right v s))
 
 -- ---- offering
 
 -- "Every refused offer leaves the session as it was."
 unfoldable pub refuse : Session → Refusal → Offered
-refuse s r = record { answer = Refused r; session = s }
+refuse s r = record { answer = Err r; session = s }
 
 -- an offer accepted, with the lost frames before it
 unfoldable pub accept : Session → ℕ → Offered
-accept s lost = record { answer = Accepted lost; session = s }
+accept s lost = record { answer = Ok lost; session = s }
 
 -- a session with another group
 unfoldable pub with_group : Session → Holding → Session
@@ -99,23 +117,22 @@ with_group s h =
       source = s.source;
       form = s.form;
       group = h;
-      poured = s.poured;
-      last_sequence = s.last_sequence;
-      last_timestamp = s.last_timestamp;
-      last_l = s.last_l;
-      last_b = s.last_b;
+      last = s.last;
     }
 
--- the numbers of the last poured group: (02, ii) "with the poured group's numbers"
-unfoldable pub last_numbers : Session → GroupNumbers
-last_numbers s =
-    record { sequence = s.last_sequence; timestamp = s.last_timestamp; l = s.last_l; b = s.last_b }
+-- "With no group held but one poured before", "With none before": (02, ii) "with the poured group's numbers"
+unfoldable pub poured_before : Option GroupNumbers → Before
+poured_before None = before.Nothing
+poured_before (Some g) = before.Poured g
 
--- "with a group held", "With no group held but one poured before", "With none before"
+-- the lost frames before a group of these numbers, of the last poured one, if there is one: (02, ii) "divided by 160"
+abbrev pub lost_after : Option GroupNumbers → GroupNumbers → ℕ
+lost_after None new = 0
+lost_after (Some g) new = pause g new / 160
+
+-- "with a group held"; else the last poured one, if there is one
 unfoldable pub group_before : Shape → Session → Before
-group_before shape s =
-    cond (is_nothing shape s.group) (cond s.poured (before.Poured (last_numbers s)) before.Nothing)
-    (before.Held (numbers_of s.group))
+group_before shape s = cond (is_nothing shape s.group) (poured_before s.last) (before.Held s.group.numbers)
 
 -- "the packet begins a group and the answer reports .. lost frames before it"
 unfoldable pub begins : Shape → Session → Arrival → ℕ → Offered
@@ -130,10 +147,10 @@ belongs shape s a =
     (accept (with_group s (with_packet shape s.group a.n a.packet)) 0)
 
 -- what the verdict on a packet's numbers means for its frames
-unfoldable pub placed_by : Shape → Session → Arrival → Verdict → Offered
-placed_by shape s a (verdict.Begins lost) = begins shape s a lost
-placed_by shape s a verdict.Belongs = belongs shape s a
-placed_by shape s a (verdict.Refused r) = refuse s r
+unfoldable pub placed_by : Shape → Session → Arrival → Result Verdict Refusal → Offered
+placed_by shape s a (Ok (verdict.Begins lost)) = begins shape s a lost
+placed_by shape s a (Ok verdict.Belongs) = belongs shape s a
+placed_by shape s a (Err r) = refuse s r
 
 -- the place of a packet that was read
 unfoldable pub placed : Shape → Session → Arrival → Offered
@@ -183,35 +200,35 @@ ended shape s =
       source = s.source;
       form = s.form;
       group = nothing shape;
-      poured = true;
-      last_sequence = s.group.sequence;
-      last_timestamp = s.group.timestamp;
-      last_l = s.group.l;
-      last_b = s.group.b;
+      last = Some s.group.numbers;
     }
 
 -- "and ends the group"; a refused pouring leaves the session as it was
-unfoldable pub after_pour : Shape → Session → Written → Session
-after_pour shape s (written.Octets n) = ended shape s
-after_pour shape s (written.Refused r) = s
+unfoldable pub after_pour : Shape → Session → Result ℕ Refusal → Session
+after_pour shape s (Ok n) = ended shape s
+after_pour shape s (Err r) = s
 
 -- 21, and a holding of nothing
 unfoldable pub no_copy : Shape → Copied
-no_copy shape = record { answer = answer.Refused NotApplicable; holding = nothing shape }
+no_copy shape = record { answer = Err NotApplicable; holding = nothing shape }
 
 -- "A session's holding can be copied out (21 likewise)"
 unfoldable pub copied : Voice → Session → Copied
 copied v s =
-    cond (is_open v s) (cond (is_nothing v.shape s.group) (no_copy v.shape) (record { answer = answer.Done; holding = s.group }))
+    cond (is_open v s) (cond (is_nothing v.shape s.group) (no_copy v.shape) (record { answer = (Ok tt); holding = s.group }))
     (no_copy v.shape)
 
 -- 21, and the session as it was
 unfoldable pub not_dropped : Session → Dropped
-not_dropped s = record { answer = answer.Refused NotApplicable; session = s }
+not_dropped s = record { answer = Err NotApplicable; session = s }
 
 -- a group dropped is ended as pouring "ends the group", and nothing is written: "session open and group held (21)"
 unfoldable pub dropped : Voice → Session → Dropped
 dropped v s =
     cond (is_open v s)
-    (cond (is_nothing v.shape s.group) (not_dropped s) (record { answer = answer.Done; session = ended v.shape s }))
+    (cond (is_nothing v.shape s.group) (not_dropped s) (record { answer = (Ok tt); session = ended v.shape s }))
     (not_dropped s)
+
+-- what a copy gives: the holding, or the refusal
+abbrev pub copied_out : Voice → Session → Result Holding Refusal
+copied_out v s = giving (copied v s).answer (copied v s).holding

@@ -17,36 +17,36 @@ pub overflow_add-from : goal.overflow_add-from
 overflow_add-from c =
     let s = c.cell_of-cell.result in
     let f : s * c.args.k + s ≤ s * 10 = region-fits s c.args.k 10 c.requires.0 in
-    omega (arith, cell-small c.args.vocoder, c.cell_of-cell.ensures, found-fits _ _ _ (sym c.row_of-found.ensures ∙ c.in-Found.is))
+    omega (arith, cell-small c.args.vocoder, c.cell_of-cell.ensures, found-fits _ _ _ (sym c.row_of.ensures ∙ c.in-Some.is))
 
-pub overflow_add-from-then-may : goal.overflow_add-from-then-may
-overflow_add-from-then-may c =
+pub overflow_add-from-then-may_stand : goal.overflow_add-from-then-may_stand
+overflow_add-from-then-may_stand c =
     let s = c.cell_of-cell.result in
     let f : s * c.args.k + s ≤ s * 10 = region-fits s c.args.k 10 c.requires.0 in
     omega (arith, cell-small c.args.vocoder, c.cell_of-cell.ensures)
 
 pub slice_bounds-zeros-count : goal.slice_bounds-zeros-count
 slice_bounds-zeros-count c =
-    omega (arith, c.cell_of-cell.ensures, found-fits _ _ _ (sym c.row_of-found.ensures ∙ c.in-Found.is))
+    omega (arith, c.cell_of-cell.ensures, found-fits _ _ _ (sym c.row_of.ensures ∙ c.in-Some.is))
 
 pub slice_bounds-zeros-start : goal.slice_bounds-zeros-start
 slice_bounds-zeros-start c =
-    omega (arith, c.cell_of-cell.ensures, found-fits _ _ _ (sym c.row_of-found.ensures ∙ c.in-Found.is))
+    omega (arith, c.cell_of-cell.ensures, found-fits _ _ _ (sym c.row_of.ensures ∙ c.in-Some.is))
 
 pub slice_bounds-zeros-end : goal.slice_bounds-zeros-end
 slice_bounds-zeros-end c =
     let s = c.cell_of-cell.result in
     let f : s * c.args.k + s ≤ s * 10 = region-fits s c.args.k 10 c.requires.0 in
-    omega (arith, c.cell_of-cell.ensures, c.requires.2)
+    omega (arith, c.cell_of-cell.ensures, c.requires.1.1)
 
-pub returns-in-Missing : goal.returns-in-Missing
-returns-in-Missing c = mark-missing _ _ _ _ _ (sym c.row_of-found.ensures ∙ c.in-Missing.is)
+pub returns-in_default : goal.returns-in_default
+returns-in_default c = mark-missing _ _ _ _ _ (sym c.row_of.ensures ∙ c.in_default.is)
 
-pub returns-then-may : goal.returns-then-may
-returns-then-may c =
-    mark-stands _ _ _ _ _ _ _ _ c.cell_of-cell.ensures (sym c.row_of-found.ensures ∙ c.in-Found.is)
-    (found-fits _ _ _ (sym c.row_of-found.ensures ∙ c.in-Found.is))
-    (sym c.may_stand-may.ensures ∙ c.if-may.true) c.zeros.ensures
+pub returns-then-may_stand : goal.returns-then-may_stand
+returns-then-may_stand c =
+    mark-stands _ _ _ _ _ _ _ _ c.cell_of-cell.ensures (sym c.row_of.ensures ∙ c.in-Some.is)
+    (found-fits _ _ _ (sym c.row_of.ensures ∙ c.in-Some.is))
+    (sym c.may_stand.ensures ∙ c.if-may_stand.true) c.zeros.ensures
 
-pub returns-else-may : goal.returns-else-may
-returns-else-may c = mark-past _ _ _ _ _ (sym c.may_stand-may.ensures ∙ c.if-may.false)
+pub returns-else-may_stand : goal.returns-else-may_stand
+returns-else-may_stand c = c.if-may_stand.false ∙ mark-past _ _ _ _ _ (sym c.may_stand.ensures ∙ c.if-may_stand.false)

@@ -1,8 +1,6 @@
 -- `capture::run_packets` meets its contract. The invariant: the run over the first i packets is done, its session is open, and the next
 -- payload begins at start.
-use Prim.Native.Nat.{◌-◌, ◌≤◌}
-use mathlib.Core.Path.{◌≡◌}
-use lib.ListN.{length}
+use Rattle.std.proofs.Common.{◌≡◌, ◌≤◌, length}
 use Rattle.frame.specs.Places.{up_to}
 use Rattle.session.specs.Standing.{whole, Stands}
 use Rattle.capture.specs.Run.{capture_kind, run_of, Does}
@@ -19,6 +17,3 @@ invariant-loop-i l = (l.i ≤ l.n)
     × Does (run_of capture_kind (whole l.initial.going.standing l.initial.marks l.initial.room) (up_to (heard_at l.capture) l.i))
     l.initial.going.octets l.initial.out (run_in l.going l.marks l.room) l.out
     × Stands l.going.standing l.marks l.room
-
-abbrev pub decreases-loop-i : goal.decreases-loop-i
-decreases-loop-i l = l.n - l.i

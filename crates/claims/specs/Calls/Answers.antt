@@ -1,6 +1,5 @@
 -- Made by tools/calls --write from the sources: the public calls of crates/answers.
-use Rattle.std.specs.Prelude.{ℕ}
-use Rattle.answers.specs.declared.Place.{Place}
+use Rattle.std.specs.Prelude.{ℕ, Option}
 use Rattle.answers.specs.declared.Refusal.{Refusal}
 use Rattle.answers.proofs as contracts
 use Rattle.claims.specs.Call.{Call}
@@ -21,14 +20,14 @@ refusal_number = record {
   left = λ κs s. tt;
 }
 
--- Refusal::place(self) -> Place
+-- Refusal::place(self) -> Option<usize>
 abbrev pub refusal_place : Call
 refusal_place = record {
   lifetimes = 0;
   parameters = contracts.Refusal.place.Kinds.ps;
   result = contracts.Refusal.place.Kinds.r;
   allows = contracts.Refusal.place.Reads.Post;
-  Answer = Place;
+  Answer = Option ℕ;
   answer = λ κs x. x;
   Given = Refusal;
   given = λ κs a. a.0;

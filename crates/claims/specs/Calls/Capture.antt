@@ -1,8 +1,7 @@
 -- Made by tools/calls --write from the sources: the public calls of crates/capture.
-use Rattle.std.specs.Prelude.{ℕ, List}
+use Rattle.std.specs.Prelude.{ℕ, List, Result}
+use Rattle.capture.specs.declared.CaptureError.{CaptureError}
 use Rattle.capture.specs.declared.Fault.{Fault}
-use Rattle.capture.specs.declared.Outcome.{Outcome}
-use Rattle.capture.specs.declared.Told.{Told}
 use Rattle.capture.proofs as contracts
 use Rattle.claims.specs.Call.{Call}
 use Rattle.claims.specs.Calls.Lent.{LentOut}
@@ -23,14 +22,14 @@ room = record {
   left = λ κs s. tt;
 }
 
--- judge(capture: &[u8]) -> Fault
+-- judge(capture: &[u8]) -> Result<(), Fault>
 abbrev pub judge : Call
 judge = record {
   lifetimes = 1;
   parameters = contracts.judge.Kinds.ps;
   result = contracts.judge.Kinds.r;
   allows = contracts.judge.Reads.Post;
-  Answer = Fault;
+  Answer = Result (Unit {0}) Fault;
   answer = λ κs x. x;
   Given = List ℕ;
   given = λ κs a. a.0.now;
@@ -39,14 +38,14 @@ judge = record {
   left = λ κs s. tt;
 }
 
--- record(capture: &[u8], out: &mut [u8]) -> Outcome
+-- record(capture: &[u8], out: &mut [u8]) -> Result<usize, CaptureError>
 abbrev pub «record» : Call
 «record» = record {
   lifetimes = 2;
   parameters = contracts.«record».Kinds.ps;
   result = contracts.«record».Kinds.r;
   allows = contracts.«record».Reads.Post;
-  Answer = Outcome;
+  Answer = Result ℕ CaptureError;
   answer = λ κs x. x;
   Given = List ℕ;
   given = λ κs a. a.0.now;
@@ -55,14 +54,14 @@ abbrev pub «record» : Call
   left = λ κs s. record { out = s.1.0.now };
 }
 
--- answer(capture: &[u8], i: usize) -> Told
+-- answer(capture: &[u8], i: usize) -> Result<usize, CaptureError>
 abbrev pub answer : Call
 answer = record {
   lifetimes = 1;
   parameters = contracts.answer.Kinds.ps;
   result = contracts.answer.Kinds.r;
   allows = contracts.answer.Reads.Post;
-  Answer = Told;
+  Answer = Result ℕ CaptureError;
   answer = λ κs x. x;
   Given = List ℕ × ℕ;
   given = λ κs a. (a.0.now, a.1.0);

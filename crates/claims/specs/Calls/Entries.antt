@@ -1,20 +1,20 @@
 -- Made by tools/calls --write from the sources: the public calls of crates/entries.
-use Rattle.std.specs.Prelude.{ℕ, List}
-use Rattle.entries.specs.declared.Counted.{Counted}
+use Rattle.std.specs.Prelude.{ℕ, List, Result}
+use Rattle.answers.specs.declared.Refusal.{Refusal}
 use Rattle.entries.specs.declared.Rule.{Rule}
 use Rattle.frame.specs.declared.Vocoder.{Vocoder}
 use Rattle.entries.proofs as contracts
 use Rattle.claims.specs.Call.{Call}
 use Rattle.claims.specs.Calls.Lent.{LentOut}
 
--- count(vocoder: Vocoder, rule: Rule, entries: &[u8], from: usize) -> Counted
+-- count(vocoder: Vocoder, rule: Rule, entries: &[u8], from: usize) -> Result<usize, Refusal>
 abbrev pub count : Call
 count = record {
   lifetimes = 1;
   parameters = contracts.count.Kinds.ps;
   result = contracts.count.Kinds.r;
   allows = contracts.count.Reads.Post;
-  Answer = Counted;
+  Answer = Result ℕ Refusal;
   answer = λ κs x. x;
   Given = Vocoder × (Rule × (List ℕ × ℕ));
   given = λ κs a. (a.0, (a.1.0, (a.1.1.0.now, a.1.1.1.0)));

@@ -1,7 +1,7 @@
 -- Made by tools/calls --write from the sources: the public calls of crates/form.
-use Rattle.std.specs.Prelude.{ℕ}
+use Rattle.std.specs.Prelude.{ℕ, Result}
+use Rattle.answers.specs.declared.Refusal.{Refusal}
 use Rattle.form.specs.declared.Limits.{Limits}
-use Rattle.form.specs.declared.Opened.{Opened}
 use Rattle.form.proofs as contracts
 use Rattle.claims.specs.Call.{Call}
 
@@ -21,14 +21,14 @@ limits_agreed = record {
   left = λ κs s. tt;
 }
 
--- Limits::open(max_l: u8, max_b: u8) -> Opened
+-- Limits::open(max_l: u8, max_b: u8) -> Result<Limits, Refusal>
 abbrev pub limits_open : Call
 limits_open = record {
   lifetimes = 0;
   parameters = contracts.Limits.«open».Kinds.ps;
   result = contracts.Limits.«open».Kinds.r;
   allows = contracts.Limits.«open».Reads.Post;
-  Answer = Opened;
+  Answer = Result Limits Refusal;
   answer = λ κs x. x;
   Given = ℕ × ℕ;
   given = λ κs a. (a.0, a.1.0);

@@ -1,19 +1,20 @@
 -- Made by tools/calls --write from the sources: the public calls of crates/frame.
-use Rattle.std.specs.Prelude.{ℕ, Bool, List}
+use Rattle.std.specs.Prelude.{ℕ, Bool, List, Option, Result}
+use Rattle.answers.specs.declared.Refusal.{Refusal}
 use Rattle.frame.specs.declared.Located.{Located}
-use Rattle.frame.specs.declared.Lookup.{Lookup}
+use Rattle.frame.specs.declared.Row.{Row}
 use Rattle.frame.specs.declared.Vocoder.{Vocoder}
 use Rattle.frame.proofs as contracts
 use Rattle.claims.specs.Call.{Call}
 
--- row_of(vocoder: Vocoder, kind: u8) -> Lookup
+-- row_of(vocoder: Vocoder, kind: u8) -> Option<Row>
 abbrev pub row_of : Call
 row_of = record {
   lifetimes = 0;
   parameters = contracts.row_of.Kinds.ps;
   result = contracts.row_of.Kinds.r;
   allows = contracts.row_of.Reads.Post;
-  Answer = Lookup;
+  Answer = Option Row;
   answer = λ κs x. x;
   Given = Vocoder × ℕ;
   given = λ κs a. (a.0, a.1.0);
@@ -70,14 +71,14 @@ body_size = record {
   left = λ κs s. tt;
 }
 
--- row_of_size(vocoder: Vocoder, size: usize) -> Lookup
+-- row_of_size(vocoder: Vocoder, size: usize) -> Option<Row>
 abbrev pub row_of_size : Call
 row_of_size = record {
   lifetimes = 0;
   parameters = contracts.row_of_size.Kinds.ps;
   result = contracts.row_of_size.Kinds.r;
   allows = contracts.row_of_size.Reads.Post;
-  Answer = Lookup;
+  Answer = Option Row;
   answer = λ κs x. x;
   Given = Vocoder × ℕ;
   given = λ κs a. (a.0, a.1.0);
@@ -118,7 +119,7 @@ is_sendable = record {
   left = λ κs s. tt;
 }
 
--- part(octets: &[u8], place: Located) -> &[u8]
+-- part(octets: &[u8], place: Result<Located, Refusal>) -> &[u8]
 abbrev pub part : Call
 part = record {
   lifetimes = 1;
@@ -127,7 +128,7 @@ part = record {
   allows = contracts.part.Reads.Post;
   Answer = List ℕ × (ℕ × ℕ);
   answer = λ κs x. (x.now, x.ref_ptr);
-  Given = List ℕ × Located;
+  Given = List ℕ × Result Located Refusal;
   given = λ κs a. (a.0.now, a.1.0);
   Lent = Unit {0};
   lent = λ κs a. tt;

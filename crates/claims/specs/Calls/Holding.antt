@@ -1,12 +1,46 @@
 -- Made by tools/calls --write from the sources: the public calls of crates/holding.
-use Rattle.std.specs.Prelude.{ℕ, Bool, List}
+use Rattle.std.specs.Prelude.{ℕ, Bool, List, Result}
+use Rattle.bundle.specs.Bundles.{as_bundle}
+use Rattle.answers.specs.declared.Refusal.{Refusal}
 use Rattle.bundle.specs.declared.Bundle.{Bundle}
+use Rattle.frame.specs.declared.Vocoder.{Vocoder}
 use Rattle.holding.specs.declared.Described.{Described}
 use Rattle.holding.specs.declared.Holding.{Holding}
-use Rattle.holding.specs.declared.Lost.{Lost}
 use Rattle.numbers.specs.declared.GroupNumbers.{GroupNumbers}
 use Rattle.holding.proofs as contracts
 use Rattle.claims.specs.Call.{Call}
+
+-- Holding::parts(&self) -> Group<'_>
+abbrev pub holding_parts : Call
+holding_parts = record {
+  lifetimes = 1;
+  parameters = contracts.Holding.parts.Kinds.ps;
+  result = contracts.Holding.parts.Kinds.r;
+  allows = contracts.Holding.parts.Reads.Post;
+  Answer = List Bool × Bundle;
+  answer = λ κs x. (x.held.now, as_bundle x.cells);
+  Given = Holding;
+  given = λ κs a. a.0.now;
+  Lent = Unit {0};
+  lent = λ κs a. tt;
+  left = λ κs s. tt;
+}
+
+-- packet_of(vocoder: Vocoder, cells: Cells<'a>, n: usize) -> Cells<'a>
+abbrev pub packet_of : Call
+packet_of = record {
+  lifetimes = 1;
+  parameters = contracts.packet_of.Kinds.ps;
+  result = contracts.packet_of.Kinds.r;
+  allows = contracts.packet_of.Reads.Post;
+  Answer = Bundle;
+  answer = λ κs x. as_bundle x;
+  Given = Vocoder × (Bundle × ℕ);
+  given = λ κs a. (a.0, (as_bundle a.1.0, a.1.1.0));
+  Lent = Unit {0};
+  lent = λ κs a. tt;
+  left = λ κs s. tt;
+}
 
 -- begin(source: u32, numbers: GroupNumbers) -> Holding
 abbrev pub begin : Call
@@ -56,17 +90,17 @@ nothing = record {
   left = λ κs s. tt;
 }
 
--- is_nothing_in(source: u32, numbers: GroupNumbers, held: &[bool], marks: &[u8], room: &[u8]) -> bool
+-- is_nothing_in(source: u32, numbers: GroupNumbers, group: Group<'_>) -> bool
 abbrev pub is_nothing_in : Call
 is_nothing_in = record {
-  lifetimes = 3;
+  lifetimes = 1;
   parameters = contracts.is_nothing_in.Kinds.ps;
   result = contracts.is_nothing_in.Kinds.r;
   allows = contracts.is_nothing_in.Reads.Post;
   Answer = Bool;
   answer = λ κs x. x;
-  Given = ℕ × (GroupNumbers × (List Bool × (List ℕ × List ℕ)));
-  given = λ κs a. (a.0, (a.1.0, (a.1.1.0.now, (a.1.1.1.0.now, a.1.1.1.1.0.now))));
+  Given = ℕ × (GroupNumbers × (List Bool × Bundle));
+  given = λ κs a. (a.0, (a.1.0, (a.1.1.0.held.now, as_bundle a.1.1.0.cells)));
   Lent = Unit {0};
   lent = λ κs a. tt;
   left = λ κs s. tt;
@@ -120,17 +154,17 @@ is_held = record {
   left = λ κs s. tt;
 }
 
--- same_packet_in(marks: &[u8], room: &[u8], n: usize, p: Bundle) -> bool
+-- same_packet_in(cells: Cells<'_>, n: usize, p: Bundle) -> bool
 abbrev pub same_packet_in : Call
 same_packet_in = record {
-  lifetimes = 2;
+  lifetimes = 1;
   parameters = contracts.same_packet_in.Kinds.ps;
   result = contracts.same_packet_in.Kinds.r;
   allows = contracts.same_packet_in.Reads.Post;
   Answer = Bool;
   answer = λ κs x. x;
-  Given = List ℕ × (List ℕ × (ℕ × Bundle));
-  given = λ κs a. (a.0.now, (a.1.0.now, (a.1.1.0, a.1.1.1.0)));
+  Given = Bundle × (ℕ × Bundle);
+  given = λ κs a. (as_bundle a.0, (a.1.0, a.1.1.0));
   Lent = Unit {0};
   lent = λ κs a. tt;
   left = λ κs s. tt;
@@ -152,17 +186,17 @@ same_packet = record {
   left = λ κs s. tt;
 }
 
--- holds_packet_in(numbers: GroupNumbers, held: &[bool], marks: &[u8], room: &[u8]) -> bool
+-- holds_packet_in(numbers: GroupNumbers, group: Group<'_>) -> bool
 abbrev pub holds_packet_in : Call
 holds_packet_in = record {
-  lifetimes = 3;
+  lifetimes = 1;
   parameters = contracts.holds_packet_in.Kinds.ps;
   result = contracts.holds_packet_in.Kinds.r;
   allows = contracts.holds_packet_in.Reads.Post;
   Answer = Bool;
   answer = λ κs x. x;
-  Given = GroupNumbers × (List Bool × (List ℕ × List ℕ));
-  given = λ κs a. (a.0, (a.1.0.now, (a.1.1.0.now, a.1.1.1.0.now)));
+  Given = GroupNumbers × (List Bool × Bundle);
+  given = λ κs a. (a.0, (a.1.0.held.now, as_bundle a.1.0.cells));
   Lent = Unit {0};
   lent = λ κs a. tt;
   left = λ κs s. tt;
@@ -200,14 +234,14 @@ holds_packet = record {
   left = λ κs s. tt;
 }
 
--- read(h: Holding) -> Described
+-- read(h: Holding) -> Result<Described, Refusal>
 abbrev pub read : Call
 read = record {
   lifetimes = 0;
   parameters = contracts.read.Kinds.ps;
   result = contracts.read.Kinds.r;
   allows = contracts.read.Reads.Post;
-  Answer = Described;
+  Answer = Result Described Refusal;
   answer = λ κs x. x;
   Given = Holding;
   given = λ κs a. a.0;
@@ -216,14 +250,14 @@ read = record {
   left = λ κs s. tt;
 }
 
--- lost_between(before: Holding, after: Holding) -> Lost
+-- lost_between(before: Holding, after: Holding) -> Result<usize, Refusal>
 abbrev pub lost_between : Call
 lost_between = record {
   lifetimes = 0;
   parameters = contracts.lost_between.Kinds.ps;
   result = contracts.lost_between.Kinds.r;
   allows = contracts.lost_between.Reads.Post;
-  Answer = Lost;
+  Answer = Result ℕ Refusal;
   answer = λ κs x. x;
   Given = Holding × Holding;
   given = λ κs a. (a.0, a.1.0);

@@ -1,5 +1,7 @@
 -- Made by tools/calls --write from the sources: what is lent to calls to be written to, by the names of the parameters.
 use Rattle.std.specs.Prelude.{ℕ, List}
+use Rattle.session.specs.declared.Session.{Session}
+use Rattle.session.specs.declared.Standing.{Standing}
 
 -- count
 pub record LentCount : Type 0 where
@@ -72,3 +74,18 @@ pub record LentSourceSequenceTimestampLBHeld : Type 0 where
   pub l : ℕ
   pub b : ℕ
   pub held : ℕ
+
+-- session
+pub record LentWholeSession : Type 0 where
+  pub session : Session
+
+-- session, out
+pub record LentWholeSessionOut : Type 0 where
+  pub session : Session
+  pub out : List ℕ
+
+-- standing, marks, room
+pub record LentWholeStandingMarksRoom : Type 0 where
+  pub standing : Standing
+  pub marks : List ℕ
+  pub room : List ℕ

@@ -1,5 +1,6 @@
 -- Made by tools/calls --write from the sources: the public calls of crates/numbers.
-use Rattle.std.specs.Prelude.{ℕ}
+use Rattle.std.specs.Prelude.{ℕ, Result}
+use Rattle.answers.specs.declared.Refusal.{Refusal}
 use Rattle.numbers.specs.declared.Before.{Before}
 use Rattle.numbers.specs.declared.GroupNumbers.{GroupNumbers}
 use Rattle.numbers.specs.declared.Verdict.{Verdict}
@@ -38,14 +39,14 @@ base_timestamp = record {
   left = λ κs s. tt;
 }
 
--- with_held(held: GroupNumbers, new: GroupNumbers) -> Verdict
+-- with_held(held: GroupNumbers, new: GroupNumbers) -> Result<Verdict, Refusal>
 abbrev pub with_held : Call
 with_held = record {
   lifetimes = 0;
   parameters = contracts.with_held.Kinds.ps;
   result = contracts.with_held.Kinds.r;
   allows = contracts.with_held.Reads.Post;
-  Answer = Verdict;
+  Answer = Result Verdict Refusal;
   answer = λ κs x. x;
   Given = GroupNumbers × GroupNumbers;
   given = λ κs a. (a.0, a.1.0);
@@ -54,14 +55,14 @@ with_held = record {
   left = λ κs s. tt;
 }
 
--- after_poured(poured: GroupNumbers, new: GroupNumbers) -> Verdict
+-- after_poured(poured: GroupNumbers, new: GroupNumbers) -> Result<Verdict, Refusal>
 abbrev pub after_poured : Call
 after_poured = record {
   lifetimes = 0;
   parameters = contracts.after_poured.Kinds.ps;
   result = contracts.after_poured.Kinds.r;
   allows = contracts.after_poured.Reads.Post;
-  Answer = Verdict;
+  Answer = Result Verdict Refusal;
   answer = λ κs x. x;
   Given = GroupNumbers × GroupNumbers;
   given = λ κs a. (a.0, a.1.0);
@@ -70,14 +71,14 @@ after_poured = record {
   left = λ κs s. tt;
 }
 
--- decide(group: Before, new: GroupNumbers) -> Verdict
+-- decide(group: Before, new: GroupNumbers) -> Result<Verdict, Refusal>
 abbrev pub decide : Call
 decide = record {
   lifetimes = 0;
   parameters = contracts.decide.Kinds.ps;
   result = contracts.decide.Kinds.r;
   allows = contracts.decide.Reads.Post;
-  Answer = Verdict;
+  Answer = Result Verdict Refusal;
   answer = λ κs x. x;
   Given = Before × GroupNumbers;
   given = λ κs a. (a.0, a.1.0);

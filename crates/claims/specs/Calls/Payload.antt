@@ -1,5 +1,6 @@
 -- Made by tools/calls --write from the sources: the public calls of crates/payload.
-use Rattle.std.specs.Prelude.{ℕ, List}
+use Rattle.std.specs.Prelude.{ℕ, List, Result}
+use Rattle.answers.specs.declared.Refusal.{Refusal}
 use Rattle.bundle.specs.declared.Bundle.{Bundle}
 use Rattle.form.specs.declared.Form.{Form}
 use Rattle.frame.specs.declared.Located.{Located}
@@ -8,14 +9,14 @@ use Rattle.payload.proofs as contracts
 use Rattle.claims.specs.Call.{Call}
 use Rattle.claims.specs.Calls.Lent.{LentMarksRoom}
 
--- read(form: Form, payload: &[u8]) -> Contents
+-- read(form: Form, payload: &[u8]) -> Result<Contents, Refusal>
 abbrev pub read : Call
 read = record {
   lifetimes = 1;
   parameters = contracts.read.Kinds.ps;
   result = contracts.read.Kinds.r;
   allows = contracts.read.Reads.Post;
-  Answer = Contents;
+  Answer = Result Contents Refusal;
   answer = λ κs x. x;
   Given = Form × List ℕ;
   given = λ κs a. (a.0, a.1.0.now);
@@ -24,14 +25,14 @@ read = record {
   left = λ κs s. tt;
 }
 
--- read_agreed(payload: &[u8]) -> Contents
+-- read_agreed(payload: &[u8]) -> Result<Contents, Refusal>
 abbrev pub read_agreed : Call
 read_agreed = record {
   lifetimes = 1;
   parameters = contracts.read_agreed.Kinds.ps;
   result = contracts.read_agreed.Kinds.r;
   allows = contracts.read_agreed.Reads.Post;
-  Answer = Contents;
+  Answer = Result Contents Refusal;
   answer = λ κs x. x;
   Given = List ℕ;
   given = λ κs a. a.0.now;
@@ -40,14 +41,14 @@ read_agreed = record {
   left = λ κs s. tt;
 }
 
--- locate(form: Form, payload: &[u8], k: usize) -> Located
+-- locate(form: Form, payload: &[u8], k: usize) -> Result<Located, Refusal>
 abbrev pub locate : Call
 locate = record {
   lifetimes = 1;
   parameters = contracts.locate.Kinds.ps;
   result = contracts.locate.Kinds.r;
   allows = contracts.locate.Reads.Post;
-  Answer = Located;
+  Answer = Result Located Refusal;
   answer = λ κs x. x;
   Given = Form × (List ℕ × ℕ);
   given = λ κs a. (a.0, (a.1.0.now, a.1.1.0));

@@ -1,9 +1,9 @@
 -- `entries::count` meets its contract. The invariant: what the walk yields from the entry reached, added to what was counted, is what
 -- the whole walk yields. Assumes nothing.
+use Rattle.std.proofs.Common.{Ok}
 use mathlib.Core.Path.{sym, ap, ◌∙◌}
 use native.Mathlib.Omega.{arith}
 use native.Mathlib.Nat.{add-zero}
-use Rattle.entries.specs.declared.Counted.TheVariants as counted
 use Rattle.entries.specs.Counting.{counted_from}
 use Rattle.entries.specs.Entries.{allowed}
 use Rattle.entries.proofs.Walking.{from_start, from-put, ended, not_known, body-cut, not-allowed, next}
@@ -17,22 +17,22 @@ entries-preserved c = (
   omega arith,
   sym (ap (counted_from _)
       (next _ (allowed _ c.args.rule) _ _ c.if-entries-at.false _
-      (sym c.row_of-found.ensures ∙ c.in-Found.is) c.if-entries-start.false
-      (sym c.allows-good.ensures ∙ c.if-good.true))
+      (sym c.row_of.ensures ∙ c.in-Some.is) c.if-entries-start.false
+      (sym c.allows.ensures ∙ c.if-not-allows.false))
       ∙ from-put _ _ _)
       ∙ c.entries.invariant.1,
 )
 
 pub returns-then-entries-at : goal.returns-then-entries-at
 unfolding counted_from
-returns-then-entries-at c = sym (ap (counted_from _) (ended _ (allowed _ c.args.rule) _ _ c.if-entries-at.true) ∙ ap counted.Frames (add-zero _)) ∙ c.entries.invariant.1
+returns-then-entries-at c = sym (ap (counted_from _) (ended _ (allowed _ c.args.rule) _ _ c.if-entries-at.true) ∙ ap Ok (add-zero _)) ∙ c.entries.invariant.1
 
-pub returns-in-Missing : goal.returns-in-Missing
+pub returns-in_default : goal.returns-in_default
 unfolding counted_from
-returns-in-Missing c =
+returns-in_default c =
     sym (ap (counted_from _)
     (not_known _ (allowed _ c.args.rule) _ _ c.if-entries-at.false
-    (sym c.row_of-found.ensures ∙ c.in-Missing.is)))
+    (sym c.row_of.ensures ∙ c.in_default.is)))
     ∙ c.entries.invariant.1
 
 pub returns-then-entries-start : goal.returns-then-entries-start
@@ -40,14 +40,14 @@ unfolding counted_from
 returns-then-entries-start c =
     sym (ap (counted_from _)
     (body-cut _ (allowed _ c.args.rule) _ _ c.if-entries-at.false _
-    (sym c.row_of-found.ensures ∙ c.in-Found.is) c.if-entries-start.true))
+    (sym c.row_of.ensures ∙ c.in-Some.is) c.if-entries-start.true))
     ∙ c.entries.invariant.1
 
-pub returns-else-good : goal.returns-else-good
+pub returns-then-not-allows : goal.returns-then-not-allows
 unfolding counted_from
-returns-else-good c =
+returns-then-not-allows c =
     sym (ap (counted_from _)
     (not-allowed _ (allowed _ c.args.rule) _ _ c.if-entries-at.false _
-    (sym c.row_of-found.ensures ∙ c.in-Found.is) c.if-entries-start.false
-    (sym c.allows-good.ensures ∙ c.if-good.false)))
+    (sym c.row_of.ensures ∙ c.in-Some.is) c.if-entries-start.false
+    (sym c.allows.ensures ∙ c.if-not-allows.true)))
     ∙ c.entries.invariant.1

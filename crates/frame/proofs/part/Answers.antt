@@ -1,21 +1,22 @@
 -- `frame::part` meets its contract: each way out is a law of the place. Assumes nothing.
-use mathlib.Core.Path.{refl}
-use native.Mathlib.Omega.{arith}
+use Rattle.std.proofs.Common.{refl, arith}
 use Rattle.frame.specs.Places.{lies_in}
 use Rattle.frame.proofs.PlacesLaws.{starts-past, ends-past, no_part, very-part}
 use Rattle.frame.proofs.part.Goals as goal
+use Rattle.frame.proofs.part.Goals.{then-octets-at-via-then-octets-at, then-octets-at-via-else-octets-at+then-octets-at-2}
 
-pub returns-then-octets-start : goal.returns-then-octets-start
-returns-then-octets-start c = no_part _ _ _ (rw c.in-At.is (starts-past _ _ _ _ c.if-octets-start.true)) refl refl
-
-pub returns-then-octets-start-2 : goal.returns-then-octets-start-2
-returns-then-octets-start-2 c =
-    no_part _ _ _ (rw c.in-At.is (ends-past _ _ _ _ c.if-octets-start.false c.if-octets-start-2.true)) refl refl
-
-pub returns-in-Refused : goal.returns-in-Refused
+pub returns-in_default : goal.returns-in_default
 unfolding lies_in
-returns-in-Refused c = no_part _ _ _ (rw c.in-Refused.is) refl refl
+returns-in_default c = no_part _ _ _ (rw c.in_default.is) refl refl
 
-pub returns-else-octets-start-2 : goal.returns-else-octets-start-2
-returns-else-octets-start-2 c =
-    rw c.in-At.is (very-part _ _ _ _ _ (omega arith) refl refl)
+pub returns-then-octets-at : goal.returns-then-octets-at
+returns-then-octets-at c =
+    let at = c.in-Ok.at in
+    elim c.then-octets-at.branch [
+      | then-octets-at-via-then-octets-at w ↦ no_part _ _ _ (rw c.in-Ok.is (starts-past at.kind _ at.size _ w.if-octets-at.true)) refl refl
+      | then-octets-at-via-else-octets-at+then-octets-at-2 w ↦
+          no_part _ _ _ (rw c.in-Ok.is (ends-past at.kind _ _ _ (omega arith) w.if-octets-at-2.true)) refl refl
+    ]
+
+pub returns : goal.returns
+returns c = rw c.in-Ok.is (very-part _ _ c.in-Ok.at.kind _ _ (omega arith) refl refl)

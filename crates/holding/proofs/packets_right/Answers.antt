@@ -1,30 +1,14 @@
--- `holding::packets_right` meets its contract. The invariant: every packet before n keeps the rule.
-use mathlib.Core.Path.{refl, sym, ◌∙◌}
-use native.Mathlib.Omega.{arith}
-use Rattle.octets.specs.Octets.{all_below}
-use Rattle.octets.proofs.Below.{all_more, all-fails, all_done}
-use Rattle.frame.proofs.FrameTableLaws.{packets-few}
+-- `holding::packets_right` meets its contract.
+use Rattle.std.proofs.Common.{◌≡◌, ℕ, Bool, true, false, refl, rules, tests, arith}
+use Rattle.std.proofs.lemmas.Iterator.{cases_from_all, YieldsList-from_range}
+use Rattle.frame.specs.Shape.{packets_of, shape_of, voice_of}
+use Rattle.octets.proofs.Below.{all_tested}
+use Rattle.holding.specs.Group.{right_of}
 use Rattle.holding.proofs.packets_right.Goals as goal
-
-pub loop-n-init : goal.loop-n-init
-unfolding all_below
-loop-n-init c = (omega arith, refl)
-
-pub right_in-right-requires : goal.right_in-right-requires
-right_in-right-requires c =
-    (omega (arith, c.packets_of-packets.ensures), c.requires)
-
-pub overflow_add-n : goal.overflow_add-n
-overflow_add-n c =
-    omega (arith, c.packets_of-packets.ensures, packets-few c.args.vocoder)
-
-pub loop-n-preserved : goal.loop-n-preserved
-loop-n-preserved c = (omega arith, all_more _ _ c.loop-n.invariant.1 (sym c.right_in-right.ensures ∙ c.if-right.true))
-
-pub returns-else-right : goal.returns-else-right
-returns-else-right c =
-    sym (all-fails _ _ c.loop-n.n (omega (arith, c.packets_of-packets.ensures)) (sym c.right_in-right.ensures ∙ c.if-right.false))
 
 pub returns : goal.returns
 returns c =
-    all_done _ _ c.loop-n.n (omega (arith, c.packets_of-packets.ensures, c.loop-n.invariant.0)) (omega (arith, c.packets_of-packets.ensures)) c.loop-n.invariant.1
+    let right : ℕ → Bool = right_of (voice_of c.args.vocoder) c.args.numbers c.args.group in
+    let n = packets_of (shape_of c.args.vocoder) in
+    all_tested right n _ (cases_from_all _ _ _ (λ k. right k ≡ true) (λ k. right k ≡ false) c.all.ensures.ran (YieldsList-from_range 0 _ n refl (omega arith))
+    (λ x q k. search (rules, tests)) (λ x q k. search (rules, tests)))

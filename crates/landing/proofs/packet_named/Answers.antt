@@ -1,14 +1,11 @@
 -- `landing::packet_named` meets its contract. Assumes nothing.
-use mathlib.Core.Path.{sym, ◌∙◌}
-use Rattle.answers.proofs.OutputsLaws.{writes-refusal, writes_as}
+use Rattle.std.proofs.Common.{sym, ◌∙◌}
+use Rattle.answers.proofs.Exits.{exits}
+use Rattle.answers.proofs.OutputsLaws.{writes-refusal}
 use Rattle.landing.specs.Host.{packet_named}
 use Rattle.landing.proofs.packet_named.Goals as goal
 
-pub returns-in-Refused : goal.returns-in-Refused
+pub returns-in_err-form_named : goal.returns-in_err-form_named
 unfolding packet_named
-returns-in-Refused c = writes-refusal _ _ _ (rw (sym c.form_named-named.ensures ∙ c.in-Refused.is))
-
-pub returns-in-Agreed : goal.returns-in-Agreed
-unfolding packet_named
-returns-in-Agreed c =
-    writes_as _ _ _ _ _ (rw (sym c.form_named-named.ensures ∙ c.in-Agreed.is)) c.write.ensures
+returns-in_err-form_named c =
+    rw (exits _ _ c.from_residual.ensures.1) (writes-refusal _ _ _ (rw (sym c.form_named.ensures ∙ c.in_err-form_named.was)))

@@ -1,19 +1,16 @@
--- `lending::flags_at` meets its contract. The invariant: the first i flags are read.
-use mathlib.Core.List.{map}
-use mathlib.Core.Bool.{Bool, false}
+-- `lending::flags_at` meets its contract.
+use Prim.Native.Nat.{ℕ, ◌+◌}
+use mathlib.Core.Bool.{false}
 use native.Mathlib.Omega.{arith}
-use lib.Seq.{paste-zero}
-use lib.ListN.{length-set, length-replicate, take, drop, replicate}
+use borrow.Author.Rules.{rules}
+use borrow.Author.Tests.{tests}
+use lib.ListN.{get_or}
 use Rattle.lending.specs.Laid.{is_set}
-use Rattle.lending.proofs.LaidLaws.{flag-more, flags-all}
+use Rattle.lending.proofs.LaidLaws.{made-at, flags-read}
 use Rattle.lending.proofs.flags_at.Goals as goal
 
-pub loop-i-init : goal.loop-i-init
-loop-i-init c = (omega arith, (length-replicate {A = Bool} 8 false, paste-zero (replicate 8 false) 0 (map is_set (take 8 (drop c.args.at c.args.lent.now)))))
-
-pub loop-i-preserved : goal.loop-i-preserved
-loop-i-preserved c =
-    (omega arith, (simp length-set c.loop-i.invariant.1.0, flag-more _ _ _ _ c.loop-i.invariant.1.1 c.requires c.loop-i-test.true))
-
 pub returns : goal.returns
-returns c = flags-all _ _ _ _ c.loop-i.invariant.1.1 c.requires c.loop-i.invariant.0 c.loop-i-test.false
+returns c =
+    let o = c.args.lent.now in
+    flags-read o c.args.at _ c.requires c.from_fn.ensures.items.long
+    (λ i k. made-at _ _ (λ (j : ℕ). is_set (get_or o (c.args.at + j) 0)) _ (λ j y q e. search (rules, tests)) 8 0 c.from_fn.ensures.items.each i false (omega arith) (omega arith))

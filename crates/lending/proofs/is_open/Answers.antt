@@ -1,27 +1,32 @@
 -- `lending::is_open` meets its contract.
-use mathlib.Core.Path.{sym, ◌∙◌}
-use native.Mathlib.Omega.{arith}
-use Rattle.lending.proofs.PartsLaws.{session-long, none_open, one-open, spans-in}
+use Rattle.std.proofs.Common.{◌≡◌, length, arith, rules}
+use mathlib.Core.Path.{sym, ap, ◌∙◌}
+use Rattle.lending.proofs.PartsLaws.{bodies-long, session-long, none_open, one-open}
 use Rattle.lending.proofs.is_open.Goals as goal
 
-pub returns-then-not-there : goal.returns-then-not-there
-returns-then-not-there c = none_open _ (sym c.is_session-there.ensures ∙ c.if-not-there.true)
+pub returns-then-not-is_session : goal.returns-then-not-is_session
+returns-then-not-is_session c = none_open _ (sym c.is_session.ensures ∙ c.if-not-is_session.true)
 
 pub standing_at-standing-requires : goal.standing_at-standing-requires
-standing_at-standing-requires c = session-long _ (sym c.is_session-there.ensures ∙ c.if-not-there.false)
+standing_at-standing-requires c = session-long _ (sym c.is_session.ensures ∙ c.if-not-is_session.false)
 
 pub marks_at-marks-requires : goal.marks_at-marks-requires
-marks_at-marks-requires c = omega (arith, session-long _ (sym c.is_session-there.ensures ∙ c.if-not-there.false))
+marks_at-marks-requires c = omega (arith, session-long _ (sym c.is_session.ensures ∙ c.if-not-is_session.false))
 
-pub slice_bounds-is_open_in-end-2 : goal.slice_bounds-is_open_in-end-2
-slice_bounds-is_open_in-end-2 c =
-    omega (arith, session-long _ (sym c.is_session-there.ensures ∙ c.if-not-there.false))
+pub cells_at-requires : goal.cells_at-requires
+cells_at-requires c = session-long _ (sym c.is_session.ensures ∙ c.if-not-is_session.false)
 
 pub is_open_in-requires : goal.is_open_in-requires
 is_open_in-requires c =
-    spans-in _ _ _ c.standing_at-standing.ensures c.marks_at-marks.ensures (sym c.is_session-there.ensures ∙ c.if-not-there.false)
+    let long = session-long _ (sym c.is_session.ensures ∙ c.if-not-is_session.false) in
+    let flags : length c.standing_at-standing.result.held ≡ 8 = search rules in
+    let types : length c.marks_at-marks.result ≡ 80 = search rules in
+    let cells = c.cells_at.ensures in
+    record { long_held = flags; long_marks = ap length cells.0 ∙ types; long_room = ap length cells.1 ∙ bodies-long _ long }
 
 pub returns : goal.returns
 returns c =
-    let there = sym c.is_session-there.ensures ∙ c.if-not-there.false in
-    c.is_open_in.ensures ∙ one-open _ _ _ c.standing_at-standing.ensures c.marks_at-marks.ensures there
+    let there = sym c.is_session.ensures ∙ c.if-not-is_session.false in
+    let cells = c.cells_at.ensures in
+    let told = c.is_open_in.ensures in
+    (rw (cells.0, cells.1) at told) ∙ one-open _ _ _ c.standing_at-standing.ensures c.marks_at-marks.ensures there

@@ -9,8 +9,8 @@ returns-then-from-lt-OCTETS c = short_is_none _ c.if-from-lt-OCTETS.true
 pub returns-then-same : goal.returns-then-same
 returns-then-same c =
     c.zeros.ensures ∙ is-laid _ _ c.if-from-lt-OCTETS.false c.standing_at-standing.ensures _ _ c.marks_at-marks.ensures (c.put_front.ensures _)
-    (sym c.same-same.ensures ∙ c.if-same.true)
+    (sym c.if-same.ensures)
 
-pub returns : goal.returns
-returns c =
-    not-laid _ _ c.if-from-lt-OCTETS.false c.standing_at-standing.ensures _ _ c.marks_at-marks.ensures (c.put_front.ensures _) (sym c.same-same.ensures ∙ c.if-same.false)
+pub returns-else-same : goal.returns-else-same
+returns-else-same c =
+    c.if-same.false ∙ not-laid _ _ c.if-from-lt-OCTETS.false c.standing_at-standing.ensures _ _ c.marks_at-marks.ensures (c.put_front.ensures _) (sym c.if-same.ensures)

@@ -4,5 +4,6 @@ use Rattle.lending.proofs.put_head.Goals as goal
 
 pub returns : goal.returns
 returns c ms rs =
-    head-laid _ _ _ _ _ _ _ _ c.put_flag.ensures c.put_form.ensures c.put_four.ensures c.put_flag-2.ensures
-    (c.put_last.ensures ms rs) c.fill.ensures
+    let poured = rw c.is_some.ensures at c.put_flag-2.ensures in
+    head-laid _ _ _ _ _ _ _ _ c.put_flag.ensures c.put_form.ensures c.put_four.ensures poured
+    c.put_last.ensures c.fill.ensures

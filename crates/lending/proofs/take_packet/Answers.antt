@@ -5,4 +5,4 @@ use Rattle.lending.proofs.take_packet.Goals as goal
 
 pub returns : goal.returns
 returns c =
-    taken_back _ _ c.args.session.now _ _ _ c.requires.0 c.take.auto.room refl c.take.ensures
+    taken_back _ _ _ c.args.session.now _ _ _ c.requires.0 c.take.auto.room refl c.take.ensures

@@ -1,10 +1,7 @@
 -- `octets::put_two` meets its contract.
-use Rattle.std.proofs.Common.{arith, length-set}
-use Rattle.octets.proofs.OctetsLaws.{put-two-is}
+use Rattle.std.proofs.Common.{rules}
+use Rattle.octets.proofs.OctetsLaws.{put-over, two_be, length_two}
 use Rattle.octets.proofs.put_two.Goals as goal
 
-pub bounds-dst-at-2 : goal.bounds-dst-at-2
-bounds-dst-at-2 c = simp length-set (omega arith)
-
 pub returns : goal.returns
-returns c = put-two-is _ _ _ c.requires
+returns c = search (rules, put-over, two_be, length_two)

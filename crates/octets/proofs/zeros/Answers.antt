@@ -1,14 +1,11 @@
--- `octets::zeros` meets its contract. The invariant: what was found so far, and what is left from i on, decide.
-use Rattle.std.proofs.Common.{refl, arith}
-use Rattle.octets.proofs.OctetsLaws.{zero-again, zero-end}
+-- `octets::zeros` meets its contract.
+use Rattle.std.proofs.Common.{◌≡◌, ℕ, Bool, true, ◌&&◌, eqb, arith, ◌∙◌}
+use Rattle.std.specs.List.{fold}
+use Rattle.std.proofs.lemmas.Grind.{common_steps}
+use Rattle.octets.proofs.OctetsLaws.{zeros-folded}
 use Rattle.octets.proofs.zeros.Goals as goal
 
-pub loop-i-init : goal.loop-i-init
-loop-i-init c = (omega arith, refl)
-
-pub loop-i-preserved : goal.loop-i-preserved
-loop-i-preserved c =
-    (omega arith, rw c.still-clear.ensures (zero-again _ c.loop-i.i _ c.loop-i.invariant.1 (omega arith)))
-
 pub returns : goal.returns
-returns c = zero-end _ c.loop-i.i _ c.loop-i.invariant.1 c.loop-i-test.false
+returns c =
+    let e : c.fold.result ≡ fold (λ (t : Bool) (x : ℕ). t && eqb x 0) true c.args.s.now = grind (arith, common_steps) in
+    e ∙ zeros-folded _ true

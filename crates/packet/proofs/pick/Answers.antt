@@ -1,6 +1,6 @@
 -- `packet::pick` meets its contract. The invariant: the octets of the first k bodies, the places of their entries, and how far the entries are gone along. Assumes nothing.
 use Prim.Native.Nat.{◌+◌}
-use mathlib.Core.Path.{◌≡◌, refl}
+use mathlib.Core.Path.{refl}
 use native.Mathlib.Omega.{arith}
 use lib.ListN.{get_or, length-set}
 use Rattle.frame.proofs.FrameTableLaws.{body-small}
@@ -13,35 +13,27 @@ use Rattle.packet.proofs.pick.Goals as goal
 
 pub loop-k-init : goal.loop-k-init
 unfolding packet_frames up_to
-loop-k-init c = (omega arith, omega arith, refl, refl, λ j q. absurd (omega arith), at_first _ _ _ _)
+loop-k-init c = (omega arith, refl, refl, λ j q. absurd (omega arith), at_first _ _ _ _)
 
 pub slice_bounds-seek-count : goal.slice_bounds-seek-count
 slice_bounds-seek-count c =
-    (sought _ _ _ _ _ _ _ _ c.requires.0 c.loop-k-test.true c.loop-k.invariant.5).inside
+    (sought _ _ _ _ _ _ _ _ c.requires.0 c.loop-k-test.true c.loop-k.invariant.4).inside
 
 pub slice_bounds-seek-start : goal.slice_bounds-seek-start
 slice_bounds-seek-start c =
-    (sought _ _ _ _ _ _ _ _ c.requires.0 c.loop-k-test.true c.loop-k.invariant.5).inside
+    (sought _ _ _ _ _ _ _ _ c.requires.0 c.loop-k-test.true c.loop-k.invariant.4).inside
 
 pub seek-at-requires : goal.seek-at-requires
 seek-at-requires c =
-    (sought _ _ _ _ _ _ _ _ c.requires.0 c.loop-k-test.true c.loop-k.invariant.5).few
+    (sought _ _ _ _ _ _ _ _ c.requires.0 c.loop-k-test.true c.loop-k.invariant.4).few
 
 pub overflow_add-at : goal.overflow_add-at
 overflow_add-at c =
-    omega (arith, (found _ _ _ _ _ _ _ _ c.requires.0 c.loop-k-test.true c.loop-k.invariant.5 _ c.seek-at.ensures).here)
-
-pub offset_bounds-places-k : goal.offset_bounds-places-k
-offset_bounds-places-k c =
-    omega (arith, c.requires.0.bundle_small)
-
-pub bounds-places-k : goal.bounds-places-k
-bounds-places-k c =
-    omega (arith, c.loop-k.invariant.3, c.requires.1)
+    omega (arith, (found _ _ _ _ _ _ _ _ c.requires.0 c.loop-k-test.true c.loop-k.invariant.4 _ c.seek-at.ensures).here)
 
 pub bounds-entries-at : goal.bounds-entries-at
 bounds-entries-at c =
-    (found _ _ _ _ _ _ _ _ c.requires.0 c.loop-k-test.true c.loop-k.invariant.5 _ c.seek-at.ensures).here
+    (found _ _ _ _ _ _ _ _ c.requires.0 c.loop-k-test.true c.loop-k.invariant.4 _ c.seek-at.ensures).here
 
 pub overflow_add-size : goal.overflow_add-size
 overflow_add-size c =
@@ -52,32 +44,16 @@ overflow_add-size c =
       c.requires.0.bundle_small,
     )
 
-pub overflow_add-skip : goal.overflow_add-skip
-overflow_add-skip c =
-    omega (arith, c.requires.0.length_small)
-
 pub loop-k-preserved : goal.loop-k-preserved
 loop-k-preserved c =
     let es = c.args.entries.now in
     let at = c.loop-k.at + c.seek-at.result in
-    let x = found _ _ _ _ _ _ _ _ c.requires.0 c.loop-k-test.true c.loop-k.invariant.5 _ c.seek-at.ensures in
+    let x = found _ _ _ _ _ _ _ _ c.requires.0 c.loop-k-test.true c.loop-k.invariant.4 _ c.seek-at.ensures in
     let y = next-body (kind_of c.args.vocoder) c.args.l c.args.n c.args.b c.loop-k.k es (group_in (kind_of c.args.vocoder) es) at
     c.body_size-size.result x c.body_size-size.ensures c.loop-k-test.true in (
-      omega arith,
       omega (arith, c.body_size-size.ensures, body-small c.args.vocoder (type_of (get_or es at 0))),
       omega (arith, y.total),
-      simp length-set c.loop-k.invariant.3,
-      placed-more (kind_of c.args.vocoder) c.args.l c.args.n _ es c.loop-k.places _ c.loop-k.invariant.4 (omega (arith, c.loop-k.invariant.3, c.requires.1)) x,
-      goes_on _ _ _ _ _ _ _ _ c.requires.0 c.loop-k-test.true c.loop-k.invariant.5 _ c.seek-at.ensures,
+      simp length-set c.loop-k.invariant.2,
+      placed-more (kind_of c.args.vocoder) c.args.l c.args.n _ es c.loop-k.places _ c.loop-k.invariant.3 (omega (arith, c.loop-k.invariant.2, c.requires.1)) x,
+      goes_on _ _ _ _ _ _ _ _ c.requires.0 c.loop-k-test.true c.loop-k.invariant.4 _ c.seek-at.ensures,
     )
-
-pub shape_of-places : goal.shape_of-places
-shape_of-places c = c.loop-k.invariant.3
-
-pub returns : goal.returns
-returns c =
-    let e : c.loop-k.k ≡ c.args.b = omega arith in
-    record {
-      value = (rw (← e) c.loop-k.invariant.2, omega arith);
-      places_kept = rw (← e) c.loop-k.invariant.4;
-    }

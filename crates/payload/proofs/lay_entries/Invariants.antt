@@ -1,5 +1,5 @@
 -- `payload::lay_entries` meets its contract. The invariant: the first k frames are laid out, and body k begins at `start`.
-use Prim.Native.Nat.{◌+◌, ◌-◌, ◌*◌, ◌≤◌}
+use Prim.Native.Nat.{◌+◌, ◌*◌}
 use mathlib.Core.Path.{◌≡◌}
 use lib.ListN.{length}
 use Rattle.frame.specs.FrameTable.{rows_of}
@@ -9,11 +9,7 @@ use Rattle.payload.proofs.Laying.{framesAlong, before}
 use Rattle.payload.proofs.lay_entries.Given as goal
 
 abbrev pub invariant-loop-k : goal.invariant-loop-k
-invariant-loop-k l = (l.k ≤ l.b)
-    × (l.start ≡ 1 + l.b + before (rows_of l.vocoder) l.payload l.k)
+invariant-loop-k l = (l.start ≡ 1 + l.b + before (rows_of l.vocoder) l.payload l.k)
     × (length l.marks ≡ 10)
     × (length l.room ≡ (shape_of l.vocoder).cell * 10)
     × LaidFirst (shape_of l.vocoder) (framesAlong (rows_of l.vocoder) l.payload l.b) l.k l.marks l.room
-
-abbrev pub decreases-loop-k : goal.decreases-loop-k
-decreases-loop-k l = l.b - l.k

@@ -1,8 +1,6 @@
 -- `payload::walk` meets its contract. The invariant: what the walk yields from the entry reached, added to what was counted, is what
 -- the whole walk yields; and of each body up to here, the octets of those before it. Assumes nothing.
-use Prim.Native.Nat.{◌+◌, ◌*◌, ◌-◌, ◌≤◌}
-use mathlib.Core.Path.{◌≡◌}
-use lib.ListN.{length, drop}
+use Rattle.std.proofs.Common.{◌+◌, ◌*◌, ◌-◌, ◌≤◌, ◌≡◌, length, drop}
 use Rattle.frame.specs.FrameTable.{rows_of}
 use Rattle.payload.specs.Shown.{walked_from, walked}
 use Rattle.payload.specs.Payload.{toc}

@@ -13,22 +13,22 @@ use Rattle.pouring.proofs.pour_held_in.Goals as goal
 pub pour_size-size-requires : goal.pour_size-size-requires
 unfolding shape_of
 pour_size-size-requires c =
-    (c.requires.0, omega (arith, c.requires.2), c.requires.3)
+    (c.requires.0.0, omega (arith, c.requires.1), c.requires.2)
 
 pub returns-then-out-size : goal.returns-then-out-size
 returns-then-out-size c =
-    let e = length-rows (voice_with (rows_of Evrc)) (rows-within Evrc) c.args.marks.now c.args.room.now c.requires.1 (c.args.numbers.l + 1)
-    c.args.numbers.b (omega (arith, c.requires.2)) c.requires.3 in
+    let e = length-rows (voice_with (rows_of Evrc)) (rows-within Evrc) c.args.cells.marks.now c.args.cells.room.now c.requires.0.1 (c.args.numbers.l + 1)
+    c.args.numbers.b (omega (arith, c.requires.1)) c.requires.2 in
     writes-no-room _ _ _ refl (omega (arith, c.pour_size-size.ensures.0, c.if-out-size.true))
 
 pub pour_rows-requires : goal.pour_rows-requires
 unfolding shape_of
 pour_rows-requires c =
-    (c.requires.0, c.requires.1, omega (arith, c.requires.2), c.requires.3, omega (arith, c.pour_size-size.ensures.0))
+    (c.requires.0, omega (arith, c.requires.1), c.requires.2, omega (arith, c.pour_size-size.ensures.0))
 
 pub returns : goal.returns
 unfolding shape_of
 returns c =
-    let e = length-rows (voice_with (rows_of Evrc)) (rows-within Evrc) c.args.marks.now c.args.room.now c.requires.1 (c.args.numbers.l + 1)
-    c.args.numbers.b (omega (arith, c.requires.2)) c.requires.3 in
+    let e = length-rows (voice_with (rows_of Evrc)) (rows-within Evrc) c.args.cells.marks.now c.args.cells.room.now c.requires.0.1 (c.args.numbers.l + 1)
+    c.args.numbers.b (omega (arith, c.requires.1)) c.requires.2 in
     writes-octets _ _ _ _ _ refl (omega (arith, c.pour_size-size.ensures.0, c.if-out-size.false)) (c.pour_size-size.ensures.0 ∙ sym e) c.pour_rows.ensures

@@ -1,5 +1,5 @@
 -- `pouring::pour_row` meets its contract. The invariant: the entries of the packets before n are written.
-use Prim.Native.Nat.{◌+◌, ◌-◌, ◌≤◌}
+use Prim.Native.Nat.{◌+◌}
 use mathlib.Core.Path.{◌≡◌}
 use lib.ListN.{length}
 use Rattle.entries.specs.Entries.{entries_of}
@@ -11,8 +11,5 @@ use Rattle.pouring.proofs.pour_row.Given as goal
 
 abbrev pub invariant-loop-n : goal.invariant-loop-n
 invariant-loop-n l =
-    (l.n ≤ l.m) × (length l.out ≡ length l.initial.out) × (l.next ≡ l.at + row_size (rows_of l.vocoder) l.marks l.k l.n) ×
-    (l.out ≡ over l.initial.out l.at (entries_of (row (voice_of l.vocoder) l.marks l.room l.k l.n)))
-
-abbrev pub decreases-loop-n : goal.decreases-loop-n
-decreases-loop-n l = l.m - l.n
+    (length l.out ≡ length l.initial.out) × (l.next ≡ l.at + row_size (rows_of l.vocoder) l.cells.marks.now l.k l.n) ×
+    (l.out ≡ over l.initial.out l.at (entries_of (row (voice_of l.vocoder) l.cells.marks.now l.cells.room.now l.k l.n)))

@@ -1,5 +1,4 @@
 -- `pouring::pour_rows` meets its contract. The invariant: the rows before k are written.
-use Prim.Native.Nat.{◌-◌, ◌≤◌}
 use mathlib.Core.Path.{◌≡◌}
 use lib.ListN.{length}
 use Rattle.entries.specs.Entries.{entries_of}
@@ -11,8 +10,5 @@ use Rattle.pouring.proofs.pour_rows.Given as goal
 
 abbrev pub invariant-loop-k : goal.invariant-loop-k
 invariant-loop-k l =
-    (l.k ≤ l.b) × (length l.out ≡ length l.initial.out) × (l.at ≡ rows_size (rows_of l.vocoder) l.marks l.m l.k) ×
-    (l.out ≡ over l.initial.out 0 (entries_of (rows (voice_of l.vocoder) l.marks l.room l.m l.k)))
-
-abbrev pub decreases-loop-k : goal.decreases-loop-k
-decreases-loop-k l = l.b - l.k
+    (length l.out ≡ length l.initial.out) × (l.at ≡ rows_size (rows_of l.vocoder) l.cells.marks.now l.m l.k) ×
+    (l.out ≡ over l.initial.out 0 (entries_of (rows (voice_of l.vocoder) l.cells.marks.now l.cells.room.now l.m l.k)))

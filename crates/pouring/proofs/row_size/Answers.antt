@@ -1,47 +1,39 @@
--- `pouring::row_size` meets its contract. The invariant: size is the octets of the packets before n.
-use Prim.Native.Nat.{◌≤◌}
-use mathlib.Core.Path.{◌≡◌, refl}
+-- `pouring::row_size` meets its contract.
+use Prim.Native.Nat.{ℕ, ◌+◌, ◌*◌}
+use mathlib.Core.Path.{◌≡◌, ◌∙◌}
 use native.Mathlib.Omega.{arith}
-use Rattle.frame.proofs.FrameTableLaws.{packets-few}
-use Rattle.frame.proofs.FrameTableLaws.{body-small}
+use borrow.Author.Rules.{rules}
+use borrow.Author.Tests.{tests}
+use lib.ListN.{get_or}
+use Rattle.std.proofs.lemmas.Iterator.{YieldsList-from_range, YieldsList-from_map, serves_from_Range}
+use Rattle.std.proofs.lemmas.Iterator.Consumers.{sum_from_yields_List, fits_from_yields_list}
+use Rattle.frame.specs.FrameTable.{rows_of, size}
+use Rattle.frame.proofs.FrameTableLaws.{packets-few, body-small}
 use Rattle.pouring.specs.Pouring.{row_size}
-use Rattle.pouring.proofs.PouringLaws.{row-size-more}
+use Rattle.pouring.proofs.PouringLaws.{row-size-sum, row-size-few}
 use Rattle.pouring.proofs.row_size.Goals as goal
 
-pub loop-n-init : goal.loop-n-init
-unfolding row_size
-loop-n-init c = (omega arith, omega arith, refl)
+pub sum-requires-clause-can : goal.sum-requires-clause-can
+sum-requires-clause-can c =
+    let few = packets-few c.args.vocoder in
+    (tt, serves_from_Range (λ x q h. search rules) (λ x a b. search (rules, body-small)))
 
-pub overflow_mul-at : goal.overflow_mul-at
-overflow_mul-at c =
-    omega (arith, c.requires.1, packets-few c.args.vocoder)
-
-pub overflow_add-at : goal.overflow_add-at
-overflow_add-at c =
-    omega (arith, c.requires.1, packets-few c.args.vocoder, c.requires.2)
-
-pub overflow_add-size : goal.overflow_add-size
-overflow_add-size c =
-    omega (arith, c.requires.1, packets-few c.args.vocoder)
-
-pub bounds-marks-at : goal.bounds-marks-at
-bounds-marks-at c =
-    omega (arith, c.requires.0, c.requires.1, c.requires.2)
-
-pub overflow_add-size-in-loop-n : goal.overflow_add-size-in-loop-n
-overflow_add-size-in-loop-n c =
-    let z : c.body_size.result ≤ 255 = rw c.body_size.ensures (body-small c.args.vocoder _) in
-    omega (arith, c.requires.1, packets-few c.args.vocoder)
-
-pub overflow_add-n : goal.overflow_add-n
-overflow_add-n c =
-    omega (arith, c.requires.1, packets-few c.args.vocoder)
-
-pub loop-n-preserved : goal.loop-n-preserved
-loop-n-preserved c =
-    let z : c.body_size.result ≤ 255 = rw c.body_size.ensures (body-small c.args.vocoder _) in
-    (omega arith, omega arith, row-size-more _ _ _ _ _ _ c.requires.2 c.loop-n.invariant.2 c.body_size.ensures)
+pub sum-requires-clause-fits : goal.sum-requires-clause-fits
+sum-requires-clause-fits c =
+    let h : ℕ → ℕ = λ n. 1 + size (rows_of c.args.vocoder) (get_or c.args.marks.now (10 * n + c.args.k) 0) in
+    let few = row-size-few c.args.vocoder c.args.marks.now c.args.k c.args.m in
+    fits_from_yields_list c.map.result _
+    (YieldsList-from_map _ h (YieldsList-from_range 0 c.args.m c.args.m c.map.ensures.source (omega arith)) c.map.ensures.closure (λ x r q k. search (rules, tests)))
+    (rw (row-size-sum (rows_of c.args.vocoder) c.args.marks.now c.args.k c.args.m c.requires.2) (omega (arith, c.requires.1, packets-few c.args.vocoder)))
 
 pub returns : goal.returns
 returns c =
-    (let e : c.loop-n.n ≡ c.args.m = omega arith in rw e at c.loop-n.invariant.2, omega (arith, c.requires.1, packets-few c.args.vocoder))
+    let t = rows_of c.args.vocoder in
+    let ms = c.args.marks.now in
+    let h : ℕ → ℕ = λ n. 1 + size t (get_or ms (10 * n + c.args.k) 0) in
+    let few = row-size-few c.args.vocoder ms c.args.k c.args.m in
+    let e : c.sum.result ≡ row_size t ms c.args.k c.args.m =
+    sum_from_yields_List c.map.result _ c.sum.ensures.ran
+    (YieldsList-from_map _ h (YieldsList-from_range 0 c.args.m c.args.m c.map.ensures.source (omega arith)) c.map.ensures.closure (λ x r q k. search (rules, tests)))
+    ∙ row-size-sum t ms c.args.k c.args.m c.requires.2 in
+    (e, omega (arith, c.requires.1, packets-few c.args.vocoder))

@@ -1,33 +1,32 @@
 -- `session::pour` meets its contract.
-use mathlib.Core.Path.{refl, sym, ◌∙◌}
+use Rattle.std.proofs.Common.{refl, sym, ◌∙◌}
+use Rattle.answers.proofs.Exits.{exits}
 use Rattle.answers.proofs.OutputsLaws.{writes-refusal}
 use Rattle.session.specs.Session.{after_pour}
 use Rattle.session.proofs.SessionLaws.{pour-closed, pour-vacant, pour-group, group-holds, handed-on}
 use Rattle.session.proofs.pour.Goals as goal
+use Rattle.session.proofs.pour.Goals.{then-not-is_open-via-then-not-is_open, then-not-is_open-via-else-not-is_open+then-session-eq0}
 
-pub returns-then-not-ready : goal.returns-then-not-ready
+pub returns-then-not-is_open : goal.returns-then-not-is_open
 unfolding after_pour
-returns-then-not-ready c = (writes-refusal _ _ _ (pour-closed _ _ (sym c.is_open-ready.ensures ∙ c.if-not-ready.true)), refl)
+returns-then-not-is_open c = (
+  writes-refusal _ _ _ (elim c.then-not-is_open.branch [
+    | then-not-is_open-via-then-not-is_open w ↦ pour-closed _ _ (sym c.is_open.ensures ∙ w.if-not-is_open.true)
+    | then-not-is_open-via-else-not-is_open+then-session-eq0 w ↦ pour-vacant _ _ (sym c.is_open.ensures ∙ w.if-not-is_open.false) w.if-session-eq0.true
+  ]),
+  refl,
+)
 
-pub returns-then-group-eq0 : goal.returns-then-group-eq0
+pub pour_held-requires : goal.pour_held-requires
+pour_held-requires c = group-holds _ _ (sym c.is_open.ensures ∙ c.if-not-is_open.false) c.if-session-eq0.false
+
+pub returns-in_err-count : goal.returns-in_err-count
 unfolding after_pour
-returns-then-group-eq0 c =
-    let opened = sym c.is_open-ready.ensures ∙ c.if-not-ready.false in
-    (writes-refusal _ _ _ (pour-vacant _ _ opened c.if-group-eq0.true), refl)
+returns-in_err-count c =
+    let e = exits _ _ c.from_residual.ensures.1 in
+    (handed-on _ _ _ _ _ _ (pour-group _ _ (sym c.is_open.ensures ∙ c.if-not-is_open.false) c.if-session-eq0.false) (c.in_err-count.was ∙ sym e) c.pour_held.ensures, rw e refl)
 
-pub pour_held-written-requires : goal.pour_held-written-requires
-pour_held-written-requires c =
-    let opened = sym c.is_open-ready.ensures ∙ c.if-not-ready.false in
-    group-holds _ _ opened c.if-group-eq0.false
-
-pub returns-in-Refused : goal.returns-in-Refused
+pub returns : goal.returns
 unfolding after_pour
-returns-in-Refused c =
-    let opened = sym c.is_open-ready.ensures ∙ c.if-not-ready.false in
-    (handed-on _ _ _ _ _ _ (pour-group _ _ opened c.if-group-eq0.false) c.in-Refused.is c.pour_held-written.ensures, refl)
-
-pub returns-in-Octets : goal.returns-in-Octets
-unfolding after_pour
-returns-in-Octets c =
-    let opened = sym c.is_open-ready.ensures ∙ c.if-not-ready.false in
-    (handed-on _ _ _ _ _ _ (pour-group _ _ opened c.if-group-eq0.false) c.in-Octets.is c.pour_held-written.ensures, c.ended-next.ensures)
+returns c =
+    (handed-on _ _ _ _ _ _ (pour-group _ _ (sym c.is_open.ensures ∙ c.if-not-is_open.false) c.if-session-eq0.false) c.in_ok-count.was c.pour_held.ensures, c.forget_group.ensures)

@@ -1,48 +1,23 @@
 -- `session::take` meets its contract.
-use mathlib.Core.Path.{refl}
+use Rattle.std.proofs.Common.{◌≡◌, ap, ◌∙◌, Ok}
+use Rattle.answers.proofs.Exits.{exits}
+use Rattle.session.specs.declared.Decision.TheVariants as decision
 use Rattle.session.specs.Session.{refuse}
 use Rattle.session.specs.Standing.{decided_as}
 use Rattle.session.proofs.StandingLaws.{took-first, took_more}
 use Rattle.session.proofs.take.Goals as goal
 
-pub lay_in-requires : goal.lay_in-requires
-lay_in-requires c =
-    let f = rw c.in-Begins.is at c.requires.1 in
-    (f.1, f.0, c.requires.0.spans.long_marks, c.requires.0.spans.long_room)
-
-pub begin_group-requires : goal.begin_group-requires
-begin_group-requires c =
-    let f = rw c.in-Begins.is at c.requires.1 in
-    f.0
-
-pub lay_in-requires-in-PutIn : goal.lay_in-requires-in-PutIn
-lay_in-requires-in-PutIn c =
-    let f = rw c.in-PutIn.is at c.requires.1 in
-    (f.1, f.0, c.requires.0.spans.long_marks, c.requires.0.spans.long_room)
-
-pub hold_packet-requires : goal.hold_packet-requires
-hold_packet-requires c =
-    let f = rw c.in-PutIn.is at c.requires.1 in
-    f.0
-
-pub again-requires : goal.again-requires
-again-requires c =
-    let f = rw c.in-Again.is at c.requires.1 in
-    (f.0, c.requires.0.spans.long_marks, c.requires.0.spans.long_room)
-
-pub returns-in-Refused : goal.returns-in-Refused
+pub returns-in_err-numbers : goal.returns-in_err-numbers
 unfolding decided_as refuse
-returns-in-Refused c = rw c.in-Refused.is
+returns-in_err-numbers c = rw (exits _ _ c.from_residual.ensures.1, c.in_err-numbers.was)
 
 pub returns-in-Begins : goal.returns-in-Begins
 returns-in-Begins c =
-    let f = rw c.in-Begins.is at c.requires.1 in
-    rw c.in-Begins.is (took-first _ _ _ c.requires.0 _ _ _ _ c.lay_in.ensures.0 c.lay_in.ensures.1 _ _ _ c.begin_group.ensures f.2)
+    let q : c.args.decision ≡ Ok (decision.Begins c.in-Begins.numbers c.in-Begins.n c.in-Begins.lost) = c.in_ok-numbers.was ∙ ap Ok c.in-Begins.is in
+    let f = rw q at c.requires.1 in
+    rw q (took-first _ _ _ c.requires.0 _ _ _ _ c.lay_in.ensures.0 c.lay_in.ensures.1 _ _ _ c.begin_group.ensures f.2)
 
 pub returns-in-PutIn : goal.returns-in-PutIn
 returns-in-PutIn c =
-    rw c.in-PutIn.is (took_more _ _ _ c.requires.0 _ _ _ _ c.lay_in-in-PutIn.ensures.0 c.lay_in-in-PutIn.ensures.1 _ c.hold_packet.ensures)
-
-pub returns-in-Again : goal.returns-in-Again
-returns-in-Again c =
-    rw c.in-Again.is (c.again.ensures _ refl)
+    let q : c.args.decision ≡ Ok (decision.PutIn c.in-PutIn.n) = c.in_ok-numbers.was ∙ ap Ok c.in-PutIn.is in
+    rw q (took_more _ _ _ c.requires.0 _ _ _ _ c.lay_in-in-PutIn.ensures.0 c.lay_in-in-PutIn.ensures.1 _ c.hold_packet.ensures)

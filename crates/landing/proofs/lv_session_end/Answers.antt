@@ -1,6 +1,0 @@
--- `landing::lv_session_end` meets its contract.
-use Rattle.landing.proofs.HostLaws.{told-on}
-use Rattle.landing.proofs.lv_session_end.Goals as goal
-
-pub returns : goal.returns
-returns c = told-on _ _ _ _ _ c.tell.ensures c.end.ensures

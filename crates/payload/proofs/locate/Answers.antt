@@ -1,8 +1,0 @@
--- `payload::locate` meets its contract. Assumes nothing.
-use Rattle.payload.proofs.locate.Goals as goal
-
-pub returns-in-HeaderFree : goal.returns-in-HeaderFree
-returns-in-HeaderFree c = rw c.in-HeaderFree.is c.locate_header_free.ensures
-
-pub returns-in-Interleaved : goal.returns-in-Interleaved
-returns-in-Interleaved c = rw c.in-Interleaved.is c.locate_interleaved.ensures

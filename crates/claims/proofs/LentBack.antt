@@ -20,6 +20,7 @@ use Rattle.form.specs.declared.Form.{Form}
 use Rattle.form.specs.declared.Form.TheVariants.{HeaderFree, Interleaved}
 use Rattle.session.specs.declared.Session.{Session}
 use Rattle.numbers.specs.declared.GroupNumbers.{GroupNumbers}
+use Rattle.numbers.proofs.PlaceLaws.{same_numbers}
 use Rattle.lending.specs.Laid.{flag_octet, is_set, is_laid, number_octets, frame_octets, holding_octets, numbers_at, holding_at, holding_laid}
 use Rattle.lending.specs.Laid.{form_octets, form_at, last_octets, last_at, session_head, session_laid, session_at}
 use Rattle.lending.proofs.LaidLaws.{long_enough, form-free, form-interleaved, holding-there}
@@ -129,10 +130,6 @@ module _ (h : Holding) (x : Shaped holding_shape h) (z : AreOctets h.marks) wher
 abbrev numbers_of_last : List ℕ → GroupNumbers
 numbers_of_last o = record { sequence = two_at o 9; timestamp = four_at o 16; l = get_or o 11 0; b = get_or o 12 0 }
 
-same-numbers : {q q' t t' l l' b b' : ℕ} → q ≡ q' → t ≡ t' → l ≡ l' → b ≡ b'
-    → ◌≡◌ {A = GroupNumbers} (record { sequence = q; timestamp = t; l = l; b = b }) (record { sequence = q'; timestamp = t'; l = l'; b = b' })
-same-numbers a b c d = cc
-
 same-session : {o o' : Bool} {s s' : ℕ} {f f' : Form} {g g' : Holding} {l l' : Option GroupNumbers} → o ≡ o' → s ≡ s' → f ≡ f' → g ≡ g' → l ≡ l'
     → ◌≡◌ {A = Session} (record { «open» = o; source = s; form = f; group = g; last = l }) (record { «open» = o'; source = s'; form = f'; group = g'; last = l' })
 same-session a b c d e = cc
@@ -236,7 +233,7 @@ module _ (s : Session) where
         let z : (i : ℕ) → i < 11 → get_or all (9 + i) 0 ≡ get_or w i 0 = λ i p. last-octet i p ∙ ap (λ (q : Option GroupNumbers). get_or (last_octets q) i 0) e in
         let a = z 0 (omega arith) in
         let b = z 1 (omega arith) in
-        same-numbers (omega arith)
+        same_numbers (omega arith)
         (four-window all 16 ∙ ap (λ (w : List ℕ). four_at w 0) (head-there 16 4 (omega arith) ∙ time-piece g e) ∙ four-back g.timestamp)
         (z 2 (omega arith))
         (z 3 (omega arith))

@@ -31,16 +31,17 @@ def copied(room):
 
 
 def functions(source):
-    """Of a file of Rattle: the name, the extent and the text of the body of each function, a method as TYPE::NAME."""
+    """Of a file of Rattle: the name, the extent and the text of the body of each function, a method as TYPE::NAME, or
+    TYPETRAIT::NAME as the prover names it."""
     found, kind = [], None
-    for m in re.finditer(r'^impl(?:<.*?>)? (?:\S+ for )?(\w+)|^( *)(?:pub(?:\(crate\))? )?(?:extern "C" )?fn (\w+)', source, re.M):
-        if m.group(1):
-            kind = m.group(1)
+    for m in re.finditer(r'^impl(?:<.*?>)? (?:(\S+) for )?(\w+)|^( *)(?:pub(?:\(crate\))? )?(?:extern "C" )?fn (\w+)', source, re.M):
+        if m.group(2):
+            kind = m.group(2) + re.sub(r"\W", "", m.group(1) or "")
             continue
-        indent = m.group(2)
+        indent = m.group(3)
         end = re.search(rf"^{indent}\}}$", source[m.start():], re.M).end() + m.start()
         body = re.search(rf"^{indent}\{{$|\{{$", source[m.start():end], re.M).start() + m.start()
-        found.append((f"{kind}::{m.group(3)}" if indent else m.group(3), m.start(), end, source[body:end]))
+        found.append((f"{kind}::{m.group(4)}" if indent else m.group(4), m.start(), end, source[body:end]))
     return found
 
 

@@ -35,7 +35,7 @@ unfolding lengths two_at
 lengths-few c h zero = omega arith
 lengths-few c h (suc n) = omega (arith, lengths-few c h n, h (2 + 12 * n + 10), h (2 + 12 * n + 10 + 1))
 
-lengths-more : (c : List ℕ) (n s x : ℕ) → s ≡ lengths c n → x ≡ two_at c (2 + 12 * n + 10) → s + x ≡ lengths c (n + 1)
+pub lengths-more : (c : List ℕ) (n s x : ℕ) → s ≡ lengths c n → x ≡ two_at c (2 + 12 * n + 10) → s + x ≡ lengths c (n + 1)
 unfolding lengths
 lengths-more c n s x e f = rw (add-one n, e, f)
 
@@ -114,15 +114,19 @@ pub payload-long : (c : List ℕ) (i : ℕ) → start_at c i + length_at c i ≤
 unfolding heard_at
 payload-long c i h = length-take-le (length_at c i) (drop (start_at c i) c) (omega (arith, length-drop (start_at c i) c))
 
+-- where the next payload begins
+pub start-more : (c : List ℕ) (i s x : ℕ) → s ≡ start_at c i → x ≡ two_at c (2 + 12 * i + 10) → s + x ≡ start_at c (i + 1)
+unfolding start_at
+start-more c i s x e f = let q = lengths-more c i (lengths c i) x refl f in omega arith
+
 module _ (c : List ℕ) (i s : ℕ) (p : Packet) (e : s ≡ start_at c i) (k : s + length_at c i ≤ length c) (h : as_heard p ≡ heard_at c i) where
   pub payload-is : length p.payload.now ≡ length_at c i
   payload-is =
       let j : start_at c i + length_at c i ≤ length c = omega arith in
       ap (λ (y : Heard). length y.payload) h ∙ payload-long c i j
 
-  pub start-more : s + length p.payload.now ≡ start_at c (i + 1)
-  unfolding start_at
-  start-more = let q = lengths-more c i (lengths c i) (length_at c i) refl refl in omega (arith, payload-is)
+  pub next-start : s + length p.payload.now ≡ start_at c (i + 1)
+  next-start = start-more c i s (length p.payload.now) e payload-is
 
 -- packet i of a good capture
 pub record Turn (c : List ℕ) (i start : ℕ) : Type 0 where

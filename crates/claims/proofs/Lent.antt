@@ -48,7 +48,7 @@ unfolding NoHoldingHoldsNothing holding_in poured
 no_holding_holds_nothing v o e = rw (e, nothing-held v holding_shape) (refl, refl)
 
 -- ---- octets that are as they would be laid out
-are-laid : (o w : List ℕ) → is_laid o w ≡ true → w ≡ take 2304 o
+pub are-laid : (o w : List ℕ) → is_laid o w ≡ true → w ≡ take 2304 o
 unfolding is_laid
 are-laid o w e = go (is_long o) e
   where

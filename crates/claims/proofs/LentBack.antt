@@ -6,7 +6,7 @@ use mathlib.Core.Path.{◌≡◌, refl, sym, ap, ap₂, ◌∙◌}
 use mathlib.Core.List.{List, [], ◌∷◌, ◌++◌, map}
 use native.Mathlib.Nat.{add-zero, zero-add}
 use native.Mathlib.Omega.{arith}
-use lib.ListN.{length, take, drop, get_or, replicate, length-append}
+use lib.ListN.{length, take, drop, get_or, replicate, length-append, take-append-drop}
 use lib.Seq.{take_all}
 use Rattle.octets.specs.Octets.{over, shifted, same_octets, two_at, four_at, two_octets}
 use Rattle.octets.proofs.Logic.{apart}
@@ -22,14 +22,15 @@ use Rattle.session.specs.declared.Session.{Session}
 use Rattle.numbers.specs.declared.GroupNumbers.{GroupNumbers}
 use Rattle.numbers.proofs.PlaceLaws.{same_numbers}
 use Rattle.lending.specs.Laid.{flag_octet, is_set, is_laid, number_octets, frame_octets, holding_octets, numbers_at, holding_at, holding_laid}
-use Rattle.lending.specs.Laid.{form_octets, form_at, last_octets, last_at, session_head, session_laid, session_at}
+use Rattle.lending.specs.Laid.{form_octets, form_at, last_octets, last_at, session_head, session_laid, session_at, is_session, session_in}
 use Rattle.lending.proofs.LaidLaws.{long_enough, form-free, form-interleaved, holding-there}
 use Rattle.lending.proofs.PartsLaws.{session-there}
 use Rattle.lending.proofs.Pieces.{A, B, C, D, F, M, O, G, S, P, Q, K, E, Z, T, length-ab, length-abc, length-abcd, length-numbers, length-f}
 use Rattle.lending.proofs.Pieces.{length-m, length-fn, length_types, length-holding, length-holding-laid, length-form, length-og, length-ogs}
 use Rattle.lending.proofs.Pieces.{length-ogsp, length-kez, length-ogspq, length_last, length-head, length-grouped, length-session-laid}
 use Rattle.claims.specs.Packets.{AreOctets}
-use Rattle.claims.specs.Lent.{HoldingReadsBack, NoneRemembered, NothingPouredNothingRemembered, SessionReadsBack}
+use Rattle.claims.specs.Lent.{HoldingReadsBack, NoneRemembered, ReadsNone, NothingPouredNothingRemembered, SessionReadsBack}
+use Rattle.claims.proofs.Lent.{are-laid}
 
 -- ---- flags and types
 flags-back : (fs : List Bool) → map is_set (map flag_octet fs) ≡ fs
@@ -238,6 +239,20 @@ module _ (s : Session) where
         (z 2 (omega arith))
         (z 3 (omega arith))
 
+    -- where there is none, they read as zero
+    last-zero : s.last ≡ None → ReadsNone all
+    unfolding ReadsNone last_octets two_at four_at
+    last-zero e =
+        let z : (i : ℕ) → i < 11 → get_or all (9 + i) 0 ≡ get_or (replicate {A = ℕ} 11 0) i 0 =
+        λ i p. last-octet i p ∙ ap (λ (q : Option GroupNumbers). get_or (last_octets q) i 0) e in
+        let a = z 0 (omega arith) in
+        let b = z 1 (omega arith) in
+        let c = z 7 (omega arith) in
+        let d = z 8 (omega arith) in
+        let f = z 9 (omega arith) in
+        let g = z 10 (omega arith) in
+        (omega arith, (omega arith, (z 2 (omega arith), z 3 (omega arith))))
+
     -- and whether there is one
     last-same : last_at all ≡ s.last
     unfolding last_at
@@ -301,10 +316,27 @@ none-remembered s = go s.last
     go None e = refl
     go (Some g) e = apart (cc)
 
+laid_none : (o : List ℕ) → session_laid (session_at o) ≡ take 2304 o → (session_at o).last ≡ None → ReadsNone o
+unfolding ReadsNone
+laid_none o e q =
+    let rest = drop 2304 o in
+    let y : o ≡ session_laid (session_at o) ++ rest = sym (ap (λ (w : List ℕ). w ++ rest) e ∙ take-append-drop 2304 o) in
+    let z = last-zero (session_at o) rest q in (
+      ap (λ (w : List ℕ). two_at w 9) y ∙ z.0,
+      (ap (λ (w : List ℕ). four_at w 16) y ∙ z.1.0, (ap (λ (w : List ℕ). get_or w 11 0) y ∙ z.1.1.0, ap (λ (w : List ℕ). get_or w 12 0) y ∙ z.1.1.1)),
+    )
+
+octets_none : (o : List ℕ) → is_session o ≡ true → is_some (session_in o).last ≡ false → ReadsNone o
+unfolding is_session session_in NoneRemembered
+octets_none o e q =
+    let there : session_in o ≡ session_at o = simp e in
+    laid_none o (are-laid o (session_laid (session_at o)) e) (ap (λ (s : Session). s.last) (sym there) ∙ none-remembered (session_in o) q)
+
 pub nothing_poured_nothing_remembered : NothingPouredNothingRemembered
 nothing_poured_nothing_remembered = record {
   opened = λ source form. none-remembered _;
   lent = λ o. none-remembered _;
   offers = λ v s source sequence timestamp p. none-remembered _;
   pours = λ s. none-remembered _;
+  octets = octets_none;
 }

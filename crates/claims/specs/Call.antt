@@ -15,7 +15,7 @@ pub record Call : Type 3 where
   pub result : ResultKind lifetimes
   -- what its contract allows: the contract's own reading, and no restatement of it
   pub allows : Out lifetimes parameters result
-  -- what it answers: the result; of a reference its content and its place
+  -- what it answers: the result; of a reference its content and its place; of references in a struct their contents
   pub Answer : Type 0
   pub answer : (κs : Lfts lifetimes) → (res_t result κs).Denot → Answer
   -- what it is given to be read, in the order of its parameters; of a reference its content

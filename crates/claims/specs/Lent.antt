@@ -1,7 +1,7 @@
 -- Document 01, "Session", on sessions and holdings in octets that a host lends ("Capture program"): what holds of every such octets. Over
 -- any frame table in a holding.
-use Rattle.std.specs.Prelude.{ℕ, ◌<◌, ◌≡◌, List, true, false, length, take, replicate, None, is_some}
-use Rattle.octets.specs.Octets.{over, any_set}
+use Rattle.std.specs.Prelude.{ℕ, ◌<◌, ◌≡◌, List, true, false, length, take, get_or, replicate, None, is_some}
+use Rattle.octets.specs.Octets.{over, any_set, two_at, four_at}
 use Rattle.frame.specs.FrameTable.{Frame}
 use Rattle.frame.specs.Shape.{Voice, packets_of, holding_shape}
 use Rattle.answers.specs.Outputs.{refused_output}
@@ -55,6 +55,10 @@ HoldingReadsBack = (h : Holding) → Shaped holding_shape h → AreOctets h.mark
 unfoldable pub NoneRemembered : Session → Type 0
 NoneRemembered s = is_some s.last ≡ false → s.last ≡ None
 
+-- the octets where a session's last poured group is laid out read as the numbers of none
+unfoldable pub ReadsNone : List ℕ → Type 0
+ReadsNone o = (two_at o 9 ≡ 0) × ((four_at o 16 ≡ 0) × ((get_or o 11 0 ≡ 0) × (get_or o 12 0 ≡ 0)))
+
 -- so it is with every session that a call reads or gives
 pub record NothingPouredNothingRemembered : Type 0 where
   pub opened : (source : ℕ) (form : Form) → NoneRemembered (opened_for holding_shape (never_opened holding_shape) source form).session
@@ -62,6 +66,8 @@ pub record NothingPouredNothingRemembered : Type 0 where
   pub offers : (v : Voice) (s : Session) (source sequence timestamp : ℕ) (p : List ℕ) →
       NoneRemembered (offered v s source sequence timestamp p).session
   pub pours : (s : Session) → NoneRemembered (ended holding_shape s)
+  -- so also in octets: those of a session that remembers none read as the numbers of none
+  pub octets : (o : List ℕ) → is_session o ≡ true → is_some (session_in o).last ≡ false → ReadsNone o
 
 -- what is laid out of a session reads back the same
 unfoldable pub SessionReadsBack : Type 0

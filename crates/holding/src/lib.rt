@@ -286,7 +286,7 @@ pub fn read(h: Holding) -> Result<Described, Refusal>
     }
     Ok(Described {
         source: h.source,
-        numbers: h.numbers,
+        numbers: numbers_of(h),
         held: bits_of(&h.held),
     })
 }
@@ -314,5 +314,5 @@ pub fn lost_between(before: Holding, after: Holding) -> Result<usize, Refusal>
     if after.source != before.source {
         return Err(Refusal::AnotherSource);
     }
-    lost_by(numbers::after_poured(before.numbers, after.numbers))
+    lost_by(numbers::after_poured(numbers_of(before), numbers_of(after)))
 }

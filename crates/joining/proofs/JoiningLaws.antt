@@ -6,6 +6,7 @@ use mathlib.Core.List.{List}
 use native.Mathlib.Numerals.{add-one}
 use lib.ListN.{length, get_or, set}
 use Rattle.octets.specs.Octets.{over}
+use Rattle.octets.proofs.Regions.{cut_at, cut-is}
 use Rattle.frame.specs.Shape.{Shape, packets_of, room_of}
 use Rattle.holding.specs.Group.{held_at, bundle_of, bundle_at, with_packet}
 use Rattle.bundle.specs.declared.Bundle.{Bundle}
@@ -45,11 +46,18 @@ module _ (v : Shape) (hs : List Bool) (ms rs : List ℕ) (hs' : List Bool) (ms' 
   unfolding take_one held_at
   one-lost e = rw e
 
-  pub one-held : (p : Bundle) → p ≡ bundle_of v ms' rs' n → length p.room ≡ room_of v → get_or hs' n false ≡ true → (ms'' rs'' : List ℕ)
+  pub packet-put : (p : Bundle) → p ≡ bundle_of v ms' rs' n → length p.room ≡ room_of v → get_or hs' n false ≡ true → (ms'' rs'' : List ℕ)
       → ms'' ≡ over ms (10 * n) p.marks → rs'' ≡ over rs (length p.room * n) p.room
       → unnumbered (set hs n true) ms'' rs'' ≡ take_one v (unnumbered hs ms rs) (unnumbered hs' ms' rs') n
   unfolding take_one held_at with_packet
-  one-held p q l e ms'' rs'' f g = rw (e, f, g, l, q)
+  packet-put p q l e ms'' rs'' f g = rw (e, f, g, l, q)
+
+  -- the same of what is cut out of the lists, whatever their lengths
+  pub one-held : (ms'' rs'' : List ℕ) (c : ℕ) → get_or hs' n false ≡ true → c ≡ room_of v
+      → ms'' ≡ over ms (10 * n) (cut_at ms' 10 n) → rs'' ≡ over rs (c * n) (cut_at rs' c n)
+      → unnumbered (set hs n true) ms'' rs'' ≡ take_one v (unnumbered hs ms rs) (unnumbered hs' ms' rs') n
+  unfolding take_one held_at with_packet bundle_of
+  one-held ms'' rs'' c e w p q = rw (e, p, q, w, cut-is ms' 10 n, cut-is rs' (room_of v) n)
 
 -- a's numbers, with these flags, types and cells
 abbrev numbered : Holding → List Bool → List ℕ → List ℕ → Holding

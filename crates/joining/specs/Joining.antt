@@ -63,7 +63,7 @@ pub record Joined : Type 0 where
   pub answer : Result Unit Refusal
   pub holding : Holding
 
--- a refused joining makes a holding of nothing
+-- a refused joining; beside the refusal stands a holding of nothing, which `joined` leaves out
 unfoldable pub refused_join : Shape → Refusal → Joined
 refused_join shape r = record { answer = Err r; holding = nothing shape }
 

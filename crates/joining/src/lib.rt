@@ -43,7 +43,11 @@ fn agree_in(vocoder: Vocoder, n: usize, a: Group<'_>, b: Group<'_>) -> bool
     )
 }
 
+// Two runs are calls of their own: with their turns written out where a holding lies, the compiler would take its arrays apart, and copy
+// it piece by piece at each move.
+
 // Whether no packet held in both of two groups differs.
+#[inline(never)]
 fn agrees(vocoder: Vocoder, a: Group<'_>, b: Group<'_>) -> bool
     requires { Spanning (shape_of vocoder) a × Spanning (shape_of vocoder) b }
     ensures { result ≡ all_below (agree_of (shape_of vocoder) a.entry b.entry) (packets_of (shape_of vocoder)) }
@@ -75,6 +79,7 @@ fn take_one(
 }
 
 // Puts every packet that is held of one group into another.
+#[inline(never)]
 fn take_all(vocoder: Vocoder, held: &mut [bool], marks: &mut [u8], room: &mut [u8], from: Group<'_>)
     requires { Spans (shape_of vocoder) held.old marks.old room.old × Spanning (shape_of vocoder) from }
     ensures { unnumbered held.new marks.new room.new

@@ -42,7 +42,7 @@ cut_at v at (t ∷ ts) bs (suc j) h f k =
     rw (le-ltb _ _ a) (omega arith)
 
 -- the same by the sums that the walk kept of a payload with `count` entries
-first-here : (v : FrameTable) (p sums : List ℕ) (count j : ℕ) → Summed v p count sums → count < length p → j < count
+pub first-here : (v : FrameTable) (p sums : List ℕ) (count j : ℕ) → Summed v p count sums → count < length p → j < count
     → get_or sums j 0 ≤ length p - 1 - count → length p - 1 - count < before v p (j + 1)
     → 1 + count + get_or sums j 0 ≡ first_cut v (1 + count) (take count (map type_of (drop 1 p))) (drop (1 + count) p)
 first-here v p sums count j h long q f k =

@@ -110,7 +110,7 @@ pub fn pour_held(h: Holding, out: &mut [u8]) -> Result<usize, Refusal>
     requires { holds (voice_in h) h ≡ true }
     ensures { Writes (octets (entries_of (in_time (voice_in h) h))) out.old result out.new }
 {
-    pour_held_in(h.numbers, h.parts().cells, out)
+    pour_held_in(holding::numbers_of(h), h.parts().cells, out)
 }
 
 // Pours h into out: all its places in time order as recording entries.

@@ -208,7 +208,7 @@ unfoldable pub after_pour : Shape → Session → Result ℕ Refusal → Session
 after_pour shape s (Ok n) = ended shape s
 after_pour shape s (Err r) = s
 
--- 21, and a holding of nothing
+-- 21; beside it stands a holding of nothing, which `copied_out` leaves out
 unfoldable pub no_copy : Shape → Copied
 no_copy shape = record { answer = Err NotApplicable; holding = nothing shape }
 

@@ -5,7 +5,7 @@ use Rattle.session.specs.Standing.{whole}
 use Rattle.capture.specs.Capture.{Heard}
 use Rattle.capture.specs.Going.{run_in}
 use Rattle.capture.specs.Run.{capture_kind, step_of, Does}
-use Rattle.capture.proofs.CaptureLaws.{good-is, start_first, payload-is, start-more, turn}
+use Rattle.capture.proofs.CaptureLaws.{good-is, start_first, payload-is, next-start, turn}
 use Rattle.capture.proofs.RunLaws.{table_fits, table-erases, run_none, run-again, run_fits}
 use Rattle.capture.proofs.InPlace.{stands-stepped}
 use Rattle.capture.proofs.run_packets.Goals as goal
@@ -49,7 +49,7 @@ loop-i-preserved c =
     (run_in c.step-answered.new.going c.step-answered.new.marks c.step-answered.new.room) c.step-answered.new.out) c.packet_at-packet.ensures c.step-answered.ensures.0 in (
       omega arith,
       k.out ∙ c.loop-i.invariant.1,
-      start-more _ _ _ c.packet_at-packet.result c.loop-i.invariant.2 t.payload_in c.packet_at-packet.ensures,
+      next-start _ _ _ c.packet_at-packet.result c.loop-i.invariant.2 t.payload_in c.packet_at-packet.ensures,
       k.marks ∙ c.loop-i.invariant.3,
       k.room ∙ c.loop-i.invariant.4,
       run-again _ _ _ _ _ _ _ _ _ _ c.loop-i.invariant.5 done,

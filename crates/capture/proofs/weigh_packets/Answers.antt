@@ -4,7 +4,7 @@ use Rattle.std.proofs.Common.{◌≡◌, subst, arith}
 use Rattle.capture.specs.Capture.{Heard}
 use Rattle.capture.specs.Run.{capture_kind, step_of}
 use Rattle.capture.specs.Weighing.{Weighs}
-use Rattle.capture.proofs.CaptureLaws.{good-is, start_first, payload-is, start-more, turn}
+use Rattle.capture.proofs.CaptureLaws.{good-is, start_first, payload-is, next-start, turn}
 use Rattle.capture.proofs.WeighingLaws.{run-begun, run-further, ran-measures, ran-few, ran-all}
 use Rattle.capture.proofs.weigh_packets.Goals as goal
 
@@ -35,7 +35,7 @@ pub loop-i-preserved : goal.loop-i-preserved
 loop-i-preserved c =
     let t = turn _ c.requires.0 _ _ _ c.requires.1 c.loop-i-test.true c.loop-i.invariant.1 in (
       omega arith,
-      start-more _ _ _ c.packet_at-packet.result c.loop-i.invariant.1 t.payload_in c.packet_at-packet.ensures,
+      next-start _ _ _ c.packet_at-packet.result c.loop-i.invariant.1 t.payload_in c.packet_at-packet.ensures,
       run-further _ _ _ _ c.loop-i.invariant.2
           (subst (λ (h : Heard). Weighs (λ s. step_of capture_kind s h) c.loop-i.going c.weigh_packet-going.result) c.packet_at-packet.ensures c.weigh_packet-going.ensures),
     )

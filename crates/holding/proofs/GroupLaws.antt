@@ -12,7 +12,7 @@ use Rattle.octets.specs.Octets.{all_zero, any_set, same_octets, all_below}
 use Rattle.octets.proofs.Logic.{both_true, both_false}
 use Rattle.octets.proofs.OctetsLaws.{same_refl, same_true, zero-list, none-set}
 use Rattle.frame.specs.FrameTable.{erasure}
-use Rattle.frame.specs.Shape.{Shape, Voice, packets_of, room_of, shape_of}
+use Rattle.frame.specs.Shape.{holding_shape, Shape, Voice, packets_of, room_of, shape_of}
 use Rattle.bundle.specs.Bundles.{bundle_in, not_held, same_bundles}
 use Rattle.bundle.specs.declared.Bundle.{Bundle}
 use Rattle.octets.proofs.Regions.{region-fits, cut-is, cut_at}
@@ -37,6 +37,10 @@ packet-in v c n r e h l =
 pub packet-cut : (v : Shape) (ms rs : List ℕ) (n : ℕ) → bundle_in (cut_at ms 10 n) (cut_at rs (room_of v) n) ≡ bundle_of v ms rs n
 unfolding bundle_of
 packet-cut v ms rs n = rw (cut-is ms 10 n, cut-is rs (room_of v) n)
+
+-- the same of the packets of a holding, for a search where the code cuts one out itself
+pub cut_out : (ms rs : List ℕ) (n : ℕ) → bundle_of holding_shape ms rs n ≡ bundle_in (cut_at ms 10 n) (cut_at rs 220 n)
+cut_out ms rs n = sym (packet-cut holding_shape ms rs n)
 
 -- ---- a packet keeps the rule
 

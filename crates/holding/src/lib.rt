@@ -173,7 +173,7 @@ pub fn is_held(h: Holding, n: usize) -> bool
 
 // internal: for a holding whose parts lie apart; n comes from a payload that was read, so it is at most 7.
 // Whether packet n's frames, of these types and cells, are those of p.
-#[tactic(auto, unfolding(frame::specs::Shape::shape_of))]
+#[tactic(auto, unfolding(frame::specs::Shape::shape_of), using(crate::proofs::GroupLaws::cut_out))]
 pub fn same_packet_in(cells: Cells<'_>, n: usize, p: Bundle) -> bool
     requires { (n < 8) × OfGroup holding_shape cells }
     ensures { result ≡ same_bundles (bundle_of holding_shape cells.entry.marks.now cells.entry.room.now n) p }

@@ -180,6 +180,7 @@ fn tell_count_at(found: Result<usize, Refusal>, count: &mut usize, place: &mut u
 }
 
 // Reads a recording: 0 and its frame count; or the refusal's number, and nothing written but its place.
+#[tactic(auto, unfolding(crate::specs::Host::count_after, crate::specs::Host::fault_place))]
 pub fn lv_recording_read(recording: &[u8], count: &mut usize, place: &mut usize) -> u8
     ensures { (count_told result count.new
         ≡ count_after (counted_of (recording_read (kind_of Vocoder.Evrc) recording.now)) count.old)
@@ -208,7 +209,7 @@ pub fn lv_recording_frame(
 }
 
 // Writes a recording of entries.
-#[tactic(auto, unfolding(crate::specs::Host::write_after))]
+#[tactic(auto, unfolding(crate::specs::Host::write_after, crate::specs::Host::count_after, crate::specs::Host::fault_place))]
 pub fn lv_recording_write(
     entries: &[u8],
     out: &mut [u8],
@@ -246,7 +247,7 @@ fn packet_named(
 }
 
 // Writes packet n of an interleave group.
-#[tactic(auto, unfolding(crate::specs::Host::write_after))]
+#[tactic(auto, unfolding(crate::specs::Host::write_after, crate::specs::Host::count_after, crate::specs::Host::fault_place))]
 pub fn lv_packet_write(
     form: u8,
     max_l: u8,
@@ -287,7 +288,7 @@ fn header_free_named(
 }
 
 // Writes a header-free packet.
-#[tactic(auto, unfolding(crate::specs::Host::write_after))]
+#[tactic(auto, unfolding(crate::specs::Host::write_after, crate::specs::Host::count_after, crate::specs::Host::fault_place))]
 pub fn lv_packet_write_header_free(
     form: u8,
     max_l: u8,
@@ -325,7 +326,7 @@ fn tell_capture(found: Result<usize, CaptureError>, count: &mut usize) -> u8
 }
 
 // Turns a capture into a recording; 255 for a bad capture.
-#[tactic(auto, unfolding(crate::specs::Host::record_after))]
+#[tactic(auto, unfolding(crate::specs::Host::record_after, crate::specs::Host::capture_after))]
 pub fn lv_capture_record(capture: &[u8], out: &mut [u8], written: &mut usize) -> u8
     ensures { write_told result written.new out.new
         ≡ record_after capture_kind capture.now written.old out.old }
@@ -383,6 +384,7 @@ pub fn lv_session_open(source: u32, form: u8, max_l: u8, max_b: u8, session: &mu
 }
 
 // Offers a packet to a session.
+#[tactic(auto, unfolding(crate::specs::Host::count_after, crate::specs::Host::fault_place))]
 pub fn lv_session_offer(
     session: &mut [u8],
     source: u32,
@@ -406,7 +408,7 @@ pub fn lv_session_offer(
 }
 
 // Pours the held group of a session, and ends it.
-#[tactic(auto, unfolding(crate::specs::Host::write_after))]
+#[tactic(auto, unfolding(crate::specs::Host::write_after, crate::specs::Host::count_after))]
 pub fn lv_session_pour(session: &mut [u8], out: &mut [u8], written: &mut usize) -> u8
     ensures { (write_told result written.new out.new
         ≡ write_after (pour_of (session_voice session.old) session.old) written.old out.old)
@@ -449,7 +451,7 @@ pub fn lv_holding_join(a: &[u8], b: &[u8], out: &mut [u8]) -> u8
 }
 
 // Pours a holding.
-#[tactic(auto, unfolding(crate::specs::Host::write_after))]
+#[tactic(auto, unfolding(crate::specs::Host::write_after, crate::specs::Host::count_after))]
 pub fn lv_holding_pour(holding: &[u8], out: &mut [u8], written: &mut usize) -> u8
     ensures { write_told result written.new out.new
         ≡ write_after (pour_held (holding_voice holding.now) holding.now) written.old out.old }

@@ -131,9 +131,16 @@ unfolding is_session is_laid
 short_is_none o h = simp (too_short o h)
 
 -- ---- found there
+-- bodies that are handed on as b are as many
+pub handed-long : (o b : List ℕ) → b ≡ bodies_at o → 2304 ≤ length o → length b ≡ 1760
+handed-long o b e h = ap length e ∙ bodies-long o h
+
 pub session-long : (o : List ℕ) → is_session o ≡ true → 2304 ≤ length o
 unfolding is_session
 session-long o e = laid-long o (session_laid (session_at o)) e
+
+-- and for a search
+pub ruleset lengths = (session-long)
 
 none_in : (o : List ℕ) → is_session o ≡ false → session_in o ≡ never_opened holding_shape
 unfolding session_in
@@ -159,6 +166,10 @@ module _ (o : List ℕ) (t : Standing) (ms : List ℕ) (q : whole t (types_at o)
 
   pub one-open : is_session o ≡ true → is_open (voice_for t.form) (whole t ms (bodies_at o)) ≡ is_open (session_voice o) (session_in o)
   one-open e = ap (λ (x : Session). is_open (voice_for x.form) x) (whole_in e)
+
+  -- and so where its types and bodies are handed on as l and b
+  pub one-judged : (r : Bool) (l b : List ℕ) → r ≡ is_open (voice_for t.form) (whole t l b) → l ≡ ms → b ≡ bodies_at o → is_session o ≡ true → r ≡ is_open (session_voice o) (session_in o)
+  one-judged r l b told types bodies e = (rw (types, bodies) at told) ∙ one-open e
 
   pub spans-in : is_session o ≡ true → Spans holding_shape t.held ms (bodies_at o)
   spans-in e = subst (λ (l : List ℕ). Spans holding_shape t.held l (bodies_at o)) (sym m) (spans-at o t (session-long o e) q)

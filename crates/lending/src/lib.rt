@@ -341,7 +341,7 @@ fn last_at(lent: &[u8]) -> Option<GroupNumbers>
 }
 
 // All of the session that is laid out, but the types and the bodies of its group.
-#[tactic(auto, unfolding(crate::specs::Laid::session_at, crate::specs::Laid::holding_at))]
+#[tactic(auto, unfolding(crate::specs::Laid::session_at, crate::specs::Laid::holding_at, crate::specs::Laid::numbers_at))]
 fn standing_at(lent: &[u8]) -> Standing
     requires { 2304 ≤ length lent.now }
     ensures { whole result (types_at lent.now) (bodies_at lent.now) ≡ session_at lent.now }
@@ -384,6 +384,7 @@ fn cells_at<'a>(lent: &'a [u8], marks: &'a [u8]) -> Cells<'a>
 }
 
 // Whether the session in lent octets counts as open. One that is too short, or is none, does not.
+#[tactic(auto, using(crate::proofs::PartsLaws::lengths))]
 fn is_open(lent: &[u8]) -> bool
     ensures { result ≡ is_open (session_voice lent.now) (session_in lent.now) }
 {

@@ -22,8 +22,10 @@ use Rattle.frame.proofs.FrameTableLaws.{size-within, body-small}
 use Rattle.entries.specs.Entries.{entries_of}
 use Rattle.frame.specs.Places.{up_to, frame_at, no_frame}
 use Rattle.frame.proofs.PlacesLaws.{length-upTo, upTo-at}
-use Rattle.answers.specs.Outputs.{octets, refused_output}
+use Rattle.answers.specs.Outputs.{octets, refused_output, Writes}
+use Rattle.answers.specs.declared.Refusal.{Refusal}
 use Rattle.answers.specs.declared.Refusal.TheVariants.{NotApplicable}
+use Rattle.std.proofs.Common.{Result}
 use Rattle.bundle.specs.Bundles.{mark_at, frame_of}
 use Rattle.bundle.proofs.BundlesLaws.{frame-long}
 use Rattle.holding.specs.Group.{bundle_of, holds}
@@ -248,3 +250,10 @@ module _ (v : Voice) (ms rs : List ℕ) (m : ℕ) where
       (λ (e : k < b).
       get_or-append (rows v ms rs m b) (row v ms rs b m) no_frame (k * m + n) (omega (arith, count-rows b, suc-mul k m, mul-le-mul_right m e)) ∙ rows_at b n k p e)
       (eq-or-lt_of_le (le_of_suc-le-suc q))
+
+-- ---- of a holding, by its numbers, types and cells
+pub poured-held :
+    (v : Voice) (h : Holding) (l b : ℕ) (ms rs out after : List ℕ) (r : Result ℕ Refusal) →
+    Writes (octets (entries_of (rows v ms rs (l + 1) b))) out r after → l ≡ h.numbers.l → b ≡ h.numbers.b → ms ≡ h.marks → rs ≡ h.room →
+    Writes (octets (entries_of (in_time v h))) out r after
+poured-held v h l b ms rs out after r w p q marks room = rw (p, q, marks, room) at w

@@ -1,5 +1,5 @@
 -- What the readers of a recording answer, and its writer. Assumes nothing.
-use Rattle.std.proofs.Common.{Ok, Err}
+use Rattle.std.proofs.Common.{Ok, Err, is_err}
 use Prim.Native.Nat.{ℕ, ◌+◌, ◌≤◌, ◌<◌}
 use mathlib.Core.Path.{◌≡◌, refl, sym, ap, ◌∙◌}
 use mathlib.Core.List.{List, ◌++◌}
@@ -12,6 +12,7 @@ use Rattle.frame.specs.Places.{taken, frame_at, located_of, lies_at}
 use Rattle.answers.specs.Outputs as outputs
 use Rattle.answers.specs.declared.Refusal.{Refusal}
 use Rattle.answers.specs.declared.Refusal.TheVariants.{NotApplicable, WrongOpening}
+use Rattle.answers.proofs.OutputsLaws.{writes-refusal}
 use Rattle.frame.proofs.PlacesLaws.{LaidIn, asked-refused, asked-past, asked}
 use Rattle.entries.specs.Kind.{Kind}
 use Rattle.entries.specs.Entries.{EntriesRead, frames, refused_entries, allowed, entries_from, entries_in, frames_in, cleared}
@@ -103,6 +104,22 @@ made-refused kind es r e = go (entries_in kind Any es) refl e
     go : (w : EntriesRead) → entries_in kind Any es ≡ w → Err r ≡ counted_of w → recording_made kind es ≡ outputs.refused_output r
     go (refused_entries f) q x = let y : f ≡ r = cc in rw (q, y)
     go (frames fs) q x = apart (cc)
+
+-- a refusal of the walk is the answer, wherever it is handed on, and nothing is written
+module _ (kind : Kind) (es out : List ℕ) (h : is_err (counted_of (entries_from kind Any 0 es)) ≡ true) where
+  refused-whole : outputs.Writes (recording_made kind es) out (counted_of (entries_from kind Any 0 es)) out
+  unfolding counted_of
+  refused-whole = go (entries_from kind Any 0 es) refl h
+    where
+      go : (w : EntriesRead) → entries_from kind Any 0 es ≡ w → is_err (counted_of w) ≡ true → outputs.Writes (recording_made kind es) out (counted_of w) out
+      go (refused_entries f) q x = writes-refusal _ out f (made-refused kind es f (rw q refl))
+      go (frames fs) q x = apart (cc)
+
+  pub refused_answer : outputs.written_of (recording_made kind es) out ≡ counted_of (entries_from kind Any 0 es)
+  refused_answer = sym refused-whole.answer
+
+  pub refused_rest : outputs.out_after (recording_made kind es) out ≡ out
+  refused_rest = sym refused-whole.output
 
 pub made-frames : (kind : Kind) (es : List ℕ) (n : ℕ) → Ok n ≡ counted_of (entries_in kind Any es) → recording_made kind es ≡ outputs.octets (kind.opening ++ cleared kind 0 es)
 unfolding recording_made counted_of

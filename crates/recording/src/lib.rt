@@ -61,6 +61,7 @@ pub fn body(vocoder: Vocoder, recording: &[u8], k: usize) -> &[u8]
 }
 
 // Writes a recording of entries: the opening octets, then the entries with F and D at 0.
+#[tactic(auto, using(crate::proofs::Answering::refused_answer, crate::proofs::Answering::refused_rest))]
 pub fn write(vocoder: Vocoder, entries: &[u8], out: &mut [u8]) -> Result<usize, Refusal>
     ensures { Writes (recording_made (kind_of vocoder) entries.now) out.old result out.new }
 {

@@ -97,7 +97,7 @@ fn is_form_right(form: Form) -> bool
 
 // Opens a session for a source, in the agreed form: fresh, whatever it was before; 21 if a maximum is out of range, and then it is as
 // it was.
-#[tactic(auto, unfolding(crate::specs::Session::opened_for, crate::specs::Session::fresh))]
+#[tactic(auto, unfolding(crate::specs::Session::opened_for, crate::specs::Session::fresh, crate::specs::Session::vacant))]
 pub fn open(session: &mut Session, source: u32, form: Form) -> Result<(), Refusal>
     ensures { record { answer = result; session = session.new } ≡ opened_for holding_shape session.old source form }
 {
@@ -319,6 +319,7 @@ fn again(form: Form, payload: &[u8], n: u8, cells: Cells<'_>) -> Result<usize, R
 
 // internal: for a session that is known to be open, and what was decided of the packet there.
 // What becomes of the packet: its frames are laid out in place, or nothing changes.
+#[tactic(auto, unfolding(crate::specs::Standing::decided_as, crate::specs::Session::refuse))]
 pub fn take(
     standing: &mut Standing,
     decision: Result<Decision, Refusal>,
@@ -416,6 +417,7 @@ fn forget_group(session: &mut Session)
 }
 
 // Pours the held group into out and ends it; or refused, and session and output are as they were.
+#[tactic(auto, unfolding(crate::specs::Session::pour_made, crate::specs::Session::after_pour, answers::specs::Outputs::written_of, answers::specs::Outputs::out_after))]
 pub fn pour(session: &mut Session, out: &mut [u8]) -> Result<usize, Refusal>
     ensures { Writes (pour_made (voice_for session.old.form) session.old) out.old result out.new
         × (session.new ≡ after_pour holding_shape session.old result) }
@@ -452,7 +454,7 @@ pub fn drop_group(session: &mut Session) -> Result<(), Refusal>
 }
 
 // Ends a session: nothing of it is left. Never refused.
-#[tactic(auto, unfolding(crate::specs::Session::never_opened))]
+#[tactic(auto, unfolding(crate::specs::Session::never_opened, crate::specs::Session::vacant))]
 pub fn end(session: &mut Session)
     ensures { session.new ≡ never_opened holding_shape }
 {

@@ -1,7 +1,7 @@
 -- `lending::is_open` meets its contract.
 use Rattle.std.proofs.Common.{◌≡◌, length, arith, rules}
 use mathlib.Core.Path.{sym, ap, ◌∙◌}
-use Rattle.lending.proofs.PartsLaws.{bodies-long, session-long, none_open, one-open}
+use Rattle.lending.proofs.PartsLaws.{handed-long, session-long, none_open, one-judged}
 use Rattle.lending.proofs.is_open.Goals as goal
 
 pub returns-then-not-is_session : goal.returns-then-not-is_session
@@ -22,11 +22,9 @@ is_open_in-requires c =
     let flags : length c.standing_at-standing.result.held ≡ 8 = search rules in
     let types : length c.marks_at-marks.result ≡ 80 = search rules in
     let cells = c.cells_at.ensures in
-    record { long_held = flags; long_marks = ap length cells.0 ∙ types; long_room = ap length cells.1 ∙ bodies-long _ long }
+    record { long_held = flags; long_marks = ap length cells.0 ∙ types; long_room = handed-long _ _ (search rules) long }
 
 pub returns : goal.returns
 returns c =
     let there = sym c.is_session.ensures ∙ c.if-not-is_session.false in
-    let cells = c.cells_at.ensures in
-    let told = c.is_open_in.ensures in
-    (rw (cells.0, cells.1) at told) ∙ one-open _ _ _ c.standing_at-standing.ensures c.marks_at-marks.ensures there
+    one-judged _ _ _ c.standing_at-standing.ensures c.marks_at-marks.ensures _ _ _ c.is_open_in.ensures (search rules) (search rules) there
